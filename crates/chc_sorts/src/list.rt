@@ -1,0 +1,99 @@
+//! A list that contracts see as the list of its elements.
+
+ghost use Rattle.std.specs.Prelude.{◌≡◌, [], ◌∷◌, ◌++◌, ◌<◌, length, slice_get, slice_set, remove, MatchOption, IfErr, OnOk, OnErr, OnSome};
+ghost use Rattle.std.specs.Option.{option_copied};
+
+use crate::memory::NoMemory;
+use std::alloc::Global;
+use std::marker::Model;
+use std::mem;
+
+/// A growing list. Contracts see it as the list of its elements; how much room is spare, they do not see.
+#[derive(Debug, Drop)]
+pub struct List<T> {
+    items: Vec<T>,
+}
+
+impl<T> Model for List<T> {
+    ghost use Rattle.std.specs.Prelude.{List};
+    ghost use Rattle.std.specs.Coded.{coded_list};
+
+    ghost Value = { List T };
+
+    ghost coded = { coded_list T.code };
+
+    ghost view = { λ l. l.items.items };
+}
+
+/// A name: the bytes of a symbol, without the bars that may quote it.
+pub type Name = List<u8>;
+
+impl<T> List<T> {
+    /// The empty list, which will grow on `alloc`. It takes no memory yet.
+    pub fn new(alloc: Global) -> List<T>
+        ensures { result ≡ [] }
+    {
+        List {
+            items: Vec::new(alloc),
+        }
+    }
+
+    /// How many elements there are.
+    pub fn len(&self) -> usize
+        ensures { result ≡ length self.now }
+    {
+        self.items.len()
+    }
+
+    /// The element at `i`, counted from 0, or `None` where `i` is past the end.
+    pub fn get(&self, i: usize) -> Option<&T>
+        ensures value { option_copied result ≡ slice_get self.now i }
+        ensures within { OnSome result (i < length self.now) }
+    {
+        self.items.get(i)
+    }
+
+    /// Adds `x` at the end. Where memory is refused nothing changes and `x` comes back.
+    pub fn push(&mut self, x: T) -> Result<(), (T, NoMemory)>
+        ensures added { OnOk result (self.new ≡ self.old ++ x ∷ []) }
+        ensures same { OnErr result (self.new ≡ self.old) }
+        ensures back { IfErr result (λ e. e.0 ≡ x) }
+    {
+        match self.items.push(x) {
+            Ok(()) => Ok(()),
+            Err(refused) => Err((refused.value, NoMemory)),
+        }
+    }
+
+    /// Takes the last element off, or gives `None` where there is none.
+    pub fn pop(&mut self) -> Option<T>
+        ensures { MatchOption result ((self.old ≡ []) × (self.new ≡ [])) (λ last. self.old ≡ self.new ++ last ∷ []) }
+    {
+        self.items.pop()
+    }
+
+    /// Takes the element at `i` out; the later ones move down by one.
+    pub fn remove(&mut self, i: usize) -> T
+        requires { i < length self.old }
+        ensures element { slice_get self.old i ≡ Some result }
+        ensures rest { self.new ≡ remove self.old i }
+    {
+        self.items.remove(i)
+    }
+
+    /// Puts `x` in place of the element at `i`, and gives that one.
+    pub fn replace(&mut self, i: usize, x: T) -> T
+        requires { i < length self.old }
+        ensures element { slice_get self.old i ≡ Some result }
+        ensures changed { self.new ≡ slice_set self.old i x }
+    {
+        mem::replace(&mut self.items[i], x)
+    }
+
+    /// The elements as a slice.
+    pub fn as_slice(&self) -> &[T]
+        ensures { result.now ≡ self.now }
+    {
+        self.items.as_slice()
+    }
+}
