@@ -38,7 +38,6 @@ pub struct Sig {
 
 impl Model for Sig {
     ghost use Rattle.chc_sorts.specs.Signature.{Signature, AllInhabited};
-
     ghost use Rattle.chc_sorts.specs.contracts.sort.Sort as sort;
     ghost use Rattle.std.specs.Coded.{codes};
 

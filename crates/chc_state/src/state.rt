@@ -1,0 +1,87 @@
+//! States: predicates and clauses within the limits.
+
+ghost use Rattle.std.specs.Prelude.{◌≡◌, ◌<◌, ◌^◌, None, IsTrue, length};
+ghost use Rattle.chc_state.specs.States.{StateView, uses_live};
+ghost use Rattle.chc_state.specs.Limits.{first_passed};
+
+use crate::clause::{Clause, PredDecl};
+use chc_sorts::{List, Sig};
+use std::marker::Model;
+
+/// A signature, predicates, and clauses over them. Every clause uses live predicates alone, and all
+/// is within the limits.
+#[derive(Debug, Drop)]
+pub struct State {
+    sig: Sig,
+    preds: List<PredDecl>,
+    clauses: List<Clause>,
+}
+
+impl Model for State {
+    ghost use Rattle.std.specs.Prelude.{◌≡◌, ◌<◌, ◌^◌, true, IsTrue, is_none, length};
+    ghost use Rattle.std.specs.Coded.{codes};
+    ghost use Rattle.chc_sorts.specs.contracts.sort.Sort as sort;
+    ghost use Rattle.chc_terms.specs.contracts.term.Term as term;
+    ghost use Rattle.chc_state.specs.States.{StateView, uses_live};
+    ghost use Rattle.chc_state.specs.Limits.{first_passed};
+
+    ghost Value = { StateView };
+
+    ghost coded = { Prim.hlevel (codes, sort.the_row.coded, term.the_row.coded) };
+
+    ghost view = { λ s. record { sig = s.sig; preds = s.preds; clauses = s.clauses } };
+
+    ghost invariant = { λ s. (length s.preds < 2 ^ 32) × IsTrue (uses_live s.preds s.clauses) × (is_none (first_passed s.preds s.clauses) ≡ true) };
+}
+
+impl State {
+    /// Closes these parts to a state.
+    pub fn of_parts(sig: Sig, preds: List<PredDecl>, clauses: List<Clause>) -> State
+        requires few { length preds < 2 ^ 32 }
+        requires live { IsTrue (uses_live preds clauses) }
+        requires within { first_passed preds clauses ≡ None }
+        ensures { result ≡ record { sig = sig; preds = preds; clauses = clauses } }
+    {
+        State {
+            sig,
+            preds,
+            clauses,
+        }
+    }
+
+    /// The parts of the state, which `of_parts` would close again.
+    pub fn into_parts(self) -> (Sig, List<PredDecl>, List<Clause>)
+        ensures { record { sig = result.0; preds = result.1; clauses = result.2 } ≡ self }
+    {
+        let State {
+            sig,
+            preds,
+            clauses,
+        } = self;
+        (sig, preds, clauses)
+    }
+
+    /// The signature.
+    pub fn sig(&self) -> &Sig
+        ensures { result.now ≡ self.now.sig }
+    {
+        &self.sig
+    }
+
+    /// The predicates by number, live or not. There are fewer than 2^32.
+    pub fn preds(&self) -> &List<PredDecl>
+        ensures value { result.now ≡ self.now.preds }
+        ensures few { length self.now.preds < 2 ^ 32 }
+    {
+        &self.preds
+    }
+
+    /// The clauses in order. They use live predicates alone and are within the limits.
+    pub fn clauses(&self) -> &List<Clause>
+        ensures value { result.now ≡ self.now.clauses }
+        ensures live { IsTrue (uses_live self.now.preds self.now.clauses) }
+        ensures within { first_passed self.now.preds self.now.clauses ≡ None }
+    {
+        &self.clauses
+    }
+}
