@@ -8,6 +8,8 @@ mod memory;
 mod op;
 mod sig;
 mod sort;
+#[cfg(test)]
+mod tests;
 
 pub use boxed::Boxed;
 pub use limit::Limit;
@@ -15,4 +17,4 @@ pub use list::{List, Name};
 pub use memory::NoMemory;
 pub use op::Op;
 pub use sig::{Ctor, Data, Field, Sig};
-pub use sort::Sort;
+pub use sort::{Sort, copy_sorts};

@@ -1,6 +1,6 @@
 //! A list that contracts see as the list of its elements.
 
-ghost use Rattle.std.specs.Prelude.{◌≡◌, [], ◌∷◌, ◌++◌, ◌<◌, length, slice_get, slice_set, remove, MatchOption, IfErr, OnOk, OnErr, OnSome};
+ghost use Rattle.std.specs.Prelude.{◌≡◌, [], ◌∷◌, ◌++◌, ◌<◌, length, slice_get, slice_set, remove, MatchOption, IfOk, IfErr, OnOk, OnErr, OnSome};
 ghost use Rattle.std.specs.Option.{option_copied};
 
 use crate::memory::NoMemory;
@@ -95,5 +95,33 @@ impl<T> List<T> {
         ensures { result.now ≡ self.now }
     {
         self.items.as_slice()
+    }
+
+    /// The list of a vector's elements.
+    pub fn from_vec(items: Vec<T>) -> List<T>
+        ensures { result ≡ items.items }
+    {
+        List { items }
+    }
+
+    /// The elements as a vector.
+    pub fn into_vec(self) -> Vec<T>
+        ensures { result.items ≡ self }
+    {
+        let List { items } = self;
+        items
+    }
+}
+
+impl<T: Copy> List<T> {
+    /// An equal list on fresh memory.
+    pub fn copy(&self, alloc: Global) -> Result<List<T>, NoMemory>
+        ensures { IfOk result (λ l. l ≡ self.now) }
+    {
+        let mut copies = List::new(alloc);
+        for item in self.as_slice() {
+            copies.push(*item)?;
+        }
+        Ok(copies)
     }
 }

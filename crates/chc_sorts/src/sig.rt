@@ -1,9 +1,10 @@
 //! Signatures: datatypes in groups, each of which has a value.
 
-ghost use Rattle.std.specs.Prelude.{◌≡◌, []};
+ghost use Rattle.std.specs.Prelude.{◌≡◌, IfOk};
 ghost use Rattle.chc_sorts.specs.Signature.{Signature, no_datatypes};
 
 use crate::list::{List, Name};
+use crate::memory::NoMemory;
 use crate::sort::Sort;
 use std::alloc::Global;
 use std::marker::Model;
@@ -27,6 +28,72 @@ pub struct Ctor {
 pub struct Data {
     pub name: Name,
     pub ctors: List<Ctor>,
+}
+
+impl Field {
+    /// An equal field on fresh memory.
+    pub fn copy(&self, alloc: Global) -> Result<Field, NoMemory>
+        ensures { IfOk result (λ f. f ≡ self.now) }
+    {
+        let name = self.name.copy(alloc)?;
+        let sort = self.sort.copy(alloc)?;
+        Ok(Field { name, sort })
+    }
+}
+
+/// Equal fields on fresh memory, in the same order.
+fn copy_fields(alloc: Global, fields: &List<Field>) -> Result<List<Field>, NoMemory>
+    ensures { IfOk result (λ l. l ≡ fields.now) }
+{
+    let mut copies = List::new(alloc);
+    for field in fields.as_slice() {
+        copies.push(field.copy(alloc)?)?;
+    }
+    Ok(copies)
+}
+
+impl Ctor {
+    /// An equal constructor on fresh memory.
+    pub fn copy(&self, alloc: Global) -> Result<Ctor, NoMemory>
+        ensures { IfOk result (λ k. k ≡ self.now) }
+    {
+        let name = self.name.copy(alloc)?;
+        let fields = copy_fields(alloc, &self.fields)?;
+        Ok(Ctor { name, fields })
+    }
+}
+
+/// Equal constructors on fresh memory, in the same order.
+fn copy_ctors(alloc: Global, ctors: &List<Ctor>) -> Result<List<Ctor>, NoMemory>
+    ensures { IfOk result (λ l. l ≡ ctors.now) }
+{
+    let mut copies = List::new(alloc);
+    for ctor in ctors.as_slice() {
+        copies.push(ctor.copy(alloc)?)?;
+    }
+    Ok(copies)
+}
+
+impl Data {
+    /// An equal datatype on fresh memory.
+    pub fn copy(&self, alloc: Global) -> Result<Data, NoMemory>
+        ensures { IfOk result (λ d. d ≡ self.now) }
+    {
+        let name = self.name.copy(alloc)?;
+        let ctors = copy_ctors(alloc, &self.ctors)?;
+        Ok(Data { name, ctors })
+    }
+}
+
+/// Equal datatypes on fresh memory, in the same order.
+fn copy_datatypes(alloc: Global, datatypes: &List<Data>) -> Result<List<Data>, NoMemory>
+    ensures { IfOk result (λ l. l ≡ datatypes.now) }
+{
+    let mut copies = List::new(alloc);
+    for datatype in datatypes.as_slice() {
+        copies.push(datatype.copy(alloc)?)?;
+    }
+    Ok(copies)
 }
 
 /// Datatypes in groups, in order of declaration. Each datatype has a value.
@@ -59,5 +126,13 @@ impl Sig {
             datatypes: List::new(alloc),
             groups: List::new(alloc),
         }
+    }
+    /// An equal signature on fresh memory.
+    pub fn copy(&self, alloc: Global) -> Result<Sig, NoMemory>
+        ensures { IfOk result (λ s. s ≡ self.now) }
+    {
+        let datatypes = copy_datatypes(alloc, &self.datatypes)?;
+        let groups = self.groups.copy(alloc)?;
+        Ok(Sig { datatypes, groups })
     }
 }

@@ -3,6 +3,7 @@
 ghost use Rattle.std.specs.Prelude.{◌≡◌, IfOk};
 
 use crate::boxed::Boxed;
+use crate::list::List;
 use crate::memory::NoMemory;
 use std::alloc::Global;
 
@@ -31,4 +32,15 @@ impl Sort {
             }
         }
     }
+}
+
+/// Equal sorts on fresh memory, in the same order.
+pub fn copy_sorts(alloc: Global, sorts: &List<Sort>) -> Result<List<Sort>, NoMemory>
+    ensures { IfOk result (λ l. l ≡ sorts.now) }
+{
+    let mut copies = List::new(alloc);
+    for sort in sorts.as_slice() {
+        copies.push(sort.copy(alloc)?)?;
+    }
+    Ok(copies)
 }

@@ -1,10 +1,10 @@
 -- Charge, width and the limits of clauses and states.
-use Rattle.std.specs.Prelude.{ℕ, ◌+◌, Bool, true, false, not, ◌||◌, cond, is_none, nat_eq, nat_lt, List, [], ◌∷◌, length, map, sum, sum_by, count_by, Option, Some, None}
+use Rattle.std.specs.Prelude.{ℕ, ◌+◌, Bool, false, not, ◌||◌, cond, is_none, nat_eq, nat_lt, List, [], ◌∷◌, ◌++◌, length, filter, sum_by, count_by, Option, Some, None}
 use Rattle.std.specs.List.{list_any}
 use Rattle.chc_sorts.specs.declared.limit.Limit.{Limit}
 use Rattle.chc_sorts.specs.declared.limit.Limit.TheVariants as limit
 use Rattle.chc_terms.specs.declared.term.Term.{Term, Term-F, out-Term}
-use Rattle.chc_terms.specs.Counts.{size, depth}
+use Rattle.chc_terms.specs.Counts.{size, size_all, depth_all}
 use Rattle.chc_state.specs.declared.clause.Atom.{Atom}
 use Rattle.chc_state.specs.declared.clause.Clause.{Clause}
 use Rattle.chc_state.specs.declared.clause.PredDecl.{PredDecl}
@@ -32,40 +32,43 @@ abbrev pub is_fresh : List Term → Option ℕ → Bool
 is_fresh earlier None = false
 is_fresh earlier (Some i) = not (list_any (λ t. is_variable i (variable_of t)) earlier)
 
--- the arguments that aren't bare: those that are no variable and, in a head, repeated variables
+-- the arguments of a body atom that aren't bare: those that are no variable
 abbrev pub filled_of_body : List Term → List Term
-filled_of_body [] = []
-filled_of_body (t ∷ ts) = cond (is_fresh [] (variable_of t)) (filled_of_body ts) (t ∷ filled_of_body ts)
+filled_of_body = filter (λ t. is_none (variable_of t))
 
+-- the arguments of a head that aren't bare: those that are no variable, and repeated variables
 abbrev pub filled_after : List Term → List Term → List Term
 filled_after earlier [] = []
-filled_after earlier (t ∷ ts) = cond (is_fresh earlier (variable_of t)) (filled_after (t ∷ earlier) ts) (t ∷ filled_after (t ∷ earlier) ts)
+filled_after earlier (t ∷ ts) = cond (is_fresh earlier (variable_of t)) (filled_after (earlier ++ t ∷ []) ts) (t ∷ filled_after (earlier ++ t ∷ []) ts)
+
+abbrev pub args_of_head : Option Atom → List Term
+args_of_head None = []
+args_of_head (Some a) = a.args
 
 abbrev pub filled_of_head : Option Atom → List Term
-filled_of_head None = []
-filled_of_head (Some a) = filled_after [] a.args
+filled_of_head head = filled_after [] (args_of_head head)
 
--- a bare argument has the charge 1, another one 3 plus its size; an atom has 1 plus its arguments' charges
-abbrev pub charge_of_atom : ℕ → List Term → ℕ
-charge_of_atom positions filled = 1 + positions + sum_by (λ t. 2 + size t) filled
-
-abbrev pub charge_of_head : Option Atom → ℕ
-charge_of_head None = 1
-charge_of_head (Some a) = charge_of_atom (length a.args) (filled_after [] a.args)
+-- a bare argument has the charge 1, another one 3 plus its size; an atom has 1 plus its arguments'
+-- charges, and the missing head of a query has 1
+abbrev pub charge_of_args : List Term → List Term → ℕ
+charge_of_args args filled = 1 + length args + sum_by (λ t. 2 + size t) filled
 
 abbrev pub charge : Clause → ℕ
-charge c = sum_by size c.conj + sum_by (λ (a : Atom). charge_of_atom (length a.args) (filled_of_body a.args)) c.body + charge_of_head c.head
+charge c =
+    size_all c.conj
+    + sum_by (λ (a : Atom). charge_of_args a.args (filled_of_body a.args)) c.body
+    + charge_of_args (args_of_head c.head) (filled_of_head c.head)
 
 -- the variables and the arguments that aren't bare
 abbrev pub width : Clause → ℕ
 width c = length c.vars + sum_by (λ (a : Atom). length (filled_of_body a.args)) c.body + length (filled_of_head c.head)
 
--- a conjunct is at most 900 deep, and an argument that isn't bare at most 899
+-- a conjunct is at most 900 deep, and an argument at most 899; bare arguments always are, with depth 1
 abbrev pub is_too_deep : Clause → Bool
 is_too_deep c =
-    list_any (λ t. nat_lt 900 (depth t)) c.conj
-    || list_any (λ (a : Atom). list_any (λ t. nat_lt 899 (depth t)) (filled_of_body a.args)) c.body
-    || list_any (λ t. nat_lt 899 (depth t)) (filled_of_head c.head)
+    nat_lt 900 (depth_all c.conj)
+    || list_any (λ (a : Atom). nat_lt 899 (depth_all a.args)) c.body
+    || nat_lt 899 (depth_all (args_of_head c.head))
 
 abbrev pub is_query : Clause → Bool
 is_query c = is_none c.head

@@ -1,5 +1,5 @@
 -- The steps: where each is legal, and the state after it.
-use Rattle.std.specs.Prelude.{◌≡◌, ◌≢◌, ◌+◌, ℕ, Bool, true, false, not, ◌&&◌, ◌||◌, IsTrue, nat_eq, nat_lt, List, [], ◌∷◌, filter, None}
+use Rattle.std.specs.Prelude.{◌≡◌, ◌≢◌, ◌+◌, ◌<◌, ℕ, Bool, true, false, not, ◌&&◌, ◌||◌, IsTrue, nat_eq, nat_lt, List, [], ◌∷◌, filter, Option, Some, None}
 use Rattle.std.specs.List.{list_any, list_all}
 use Rattle.chc_state.specs.declared.clause.Atom.{Atom}
 use Rattle.chc_state.specs.declared.clause.Clause.{Clause}
@@ -7,7 +7,8 @@ use Rattle.chc_state.specs.declared.clause.PredDecl.{PredDecl}
 use Rattle.chc_state.specs.declared.step.Step.{Step}
 use Rattle.chc_state.specs.declared.step.Step.TheVariants as step
 use Rattle.chc_state.specs.States.{StateView, is_live, head_any}
-use Rattle.chc_state.specs.Limits.{first_passed, is_query}
+use Rattle.chc_state.specs.Limits.{first_passed, live_count}
+use Rattle.chc_state.specs.Meaning.{SameAnswer}
 
 -- a set of predicates, as a test
 abbrev pub PredSet : Type 0
@@ -73,3 +74,24 @@ pub record IsLegal (s : StateView) (x : Step) : Type 0 where
 abbrev pub Goes : StateView → List Step → StateView → Type 0
 Goes s [] z = s ≡ z
 Goes s (x ∷ xs) z = IsLegal s x × Goes (after s x) xs z
+
+-- what taking the step gives: the state after it, which answers as the one before, with fewer live predicates
+pub record Applies (s : StateView) (x : Step) (z : StateView) : Type 0 where
+  pub taken : z ≡ after s x
+  pub answer : SameAnswer s z
+  pub fewer : live_count z.preds < live_count s.preds
+
+-- the set is of live predicates and meets the condition
+pub record Meets (holds : List Clause → PredSet → Bool) (s : StateView) (set : PredSet) : Type 0 where
+  pub live : (p : ℕ) → IsTrue (set p) → IsTrue (is_live s.preds p)
+  pub condition : IsTrue (holds s.clauses set)
+
+-- the step on the numbers is legal, and every set that meets the condition is within them
+pub record IsGreatest (holds : List Clause → PredSet → Bool) (kind : List ℕ → Step) (s : StateView) (ps : List ℕ) : Type 0 where
+  pub legal : IsLegal s (kind ps)
+  pub greatest : (set : PredSet) → Meets holds s set → (p : ℕ) → IsTrue (set p) → IsTrue (set_of ps p)
+
+-- the greatest set that meets the condition, where it isn't empty
+abbrev pub Finds : (List Clause → PredSet → Bool) → (List ℕ → Step) → StateView → Option (List ℕ) → Type 0
+Finds holds kind s None = (set : PredSet) → Meets holds s set → (p : ℕ) → IsTrue (set p) → ⊥
+Finds holds kind s (Some ps) = IsGreatest holds kind s ps

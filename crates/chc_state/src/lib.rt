@@ -2,9 +2,14 @@
 #![tactic(auto)]
 
 mod clause;
+mod limits;
 mod state;
 mod step;
+mod tally;
+#[cfg(test)]
+mod tests;
 
 pub use clause::{Atom, Clause, PredDecl};
 pub use state::State;
 pub use step::Step;
+pub use tally::over;

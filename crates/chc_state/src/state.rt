@@ -51,7 +51,9 @@ impl State {
 
     /// The parts of the state, which `of_parts` would close again.
     pub fn into_parts(self) -> (Sig, List<PredDecl>, List<Clause>)
-        ensures { record { sig = result.0; preds = result.1; clauses = result.2 } ≡ self }
+        ensures value { record { sig = result.0; preds = result.1; clauses = result.2 } ≡ self }
+        ensures few { length result.1 < 2 ^ 32 }
+        ensures live { IsTrue (uses_live result.1 result.2) }
     {
         let State {
             sig,

@@ -1,5 +1,5 @@
 -- The value of a term: `Has`. Numbers are unbounded, and what the standard leaves open is read from a world.
-use Rattle.std.specs.Prelude.{◌≡◌, ◌≢◌, ◌⊎◌, ◌↔◌, ℕ, ℤ, pos, ◌+ℤ◌, ◌-ℤ◌, ◌*ℤ◌, ◌≤ℤ◌, ◌<ℤ◌, Bool, true, false, not, IsTrue, nat_abs, nat_eq, List, [], ◌∷◌, ◌++◌, map, Option, Some, Contains, slice_get}
+use Rattle.std.specs.Prelude.{◌≡◌, ◌≢◌, ◌⊎◌, ◌↔◌, ℕ, ℤ, pos, ◌+ℤ◌, ◌-ℤ◌, ◌*ℤ◌, ◌≤ℤ◌, ◌<ℤ◌, Bool, true, false, not, IsTrue, nat_abs, nat_eq, List, [], ◌∷◌, ◌++◌, Some, Contains, slice_get}
 use Rattle.chc_sorts.specs.declared.sort.Sort.{Sort}
 use Rattle.chc_sorts.specs.declared.op.Op.{Op}
 use Rattle.chc_sorts.specs.declared.op.Op.TheVariants as op

@@ -1,6 +1,10 @@
 //! Terms: their values, and what is counted of them.
 #![tactic(auto)]
 
+mod counts;
 mod term;
+#[cfg(test)]
+mod tests;
 
-pub use term::{Kind, Term, Terms};
+pub use counts::{depth, depth_all, size, size_all};
+pub use term::{Kind, Term, Terms, copy_terms};

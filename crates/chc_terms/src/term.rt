@@ -1,6 +1,9 @@
 //! The terms.
 
-use chc_sorts::{Boxed, List, Op, Sort};
+ghost use Rattle.std.specs.Prelude.{◌≡◌, IfOk};
+
+use chc_sorts::{Boxed, List, NoMemory, Op, Sort, copy_sorts};
+use std::alloc::Global;
 
 /// Which quantifier.
 #[derive(Clone, Copy, Debug, PartialEq, Eq)]
@@ -27,3 +30,40 @@ pub enum Term {
 
 /// Terms in order.
 pub type Terms = List<Term>;
+
+impl Term {
+    /// An equal term on fresh memory.
+    #[cycle(copy)]
+    pub fn copy(&self, alloc: Global) -> Result<Term, NoMemory>
+        ensures { IfOk result (λ t. t ≡ self.now) }
+    {
+        match self {
+            Term::Var(i) => Ok(Term::Var(*i)),
+            Term::Num(n) => Ok(Term::Num(*n)),
+            Term::Lit(b) => Ok(Term::Lit(*b)),
+            Term::App(op, ts) => {
+                let op = op.copy(alloc)?;
+                Ok(Term::App(op, copy_terms(alloc, ts)?))
+            }
+            Term::Pred(p, ts) => Ok(Term::Pred(*p, copy_terms(alloc, ts)?)),
+            Term::Quant(kind, sorts, body) => {
+                let sorts = copy_sorts(alloc, sorts)?;
+                let body = body.get().copy(alloc)?;
+                Ok(Term::Quant(*kind, sorts, Boxed::new(alloc, body)?))
+            }
+            Term::Call(k, ts) => Ok(Term::Call(*k, copy_terms(alloc, ts)?)),
+        }
+    }
+}
+
+/// Equal terms on fresh memory, in the same order.
+#[cycle(copy)]
+pub fn copy_terms(alloc: Global, ts: &Terms) -> Result<Terms, NoMemory>
+    ensures { IfOk result (λ l. l ≡ ts.now) }
+{
+    let mut copies = List::new(alloc);
+    for t in ts.as_slice() {
+        copies.push(t.copy(alloc)?)?;
+    }
+    Ok(copies)
+}

@@ -1,6 +1,6 @@
 -- The default of a sort: false, 0, the array that is the default everywhere, and for a datatype its
 -- first constructor of least height on the defaults of its fields.
-use Rattle.std.specs.Prelude.{◌≡◌, false, ℕ, suc, pos, ◌<◌, List, [], ◌∷◌}
+use Rattle.std.specs.Prelude.{false, ℕ, suc, pos, ◌<◌, List, [], ◌∷◌}
 use Rattle.chc_sorts.specs.declared.sort.Sort.{Sort}
 use Rattle.chc_sorts.specs.declared.sort.Sort.TheVariants as sort
 use Rattle.chc_sorts.specs.Signature.{Signature}

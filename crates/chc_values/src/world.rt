@@ -1,6 +1,7 @@
 //! Worlds.
 
 ghost use Rattle.std.specs.Prelude.{◌≡◌, []};
+ghost use Rattle.chc_values.specs.Worlds.{KeysOnce};
 
 use crate::value::Value;
 use chc_sorts::List;
@@ -30,12 +31,15 @@ impl Model for World {
     ghost use Rattle.std.specs.Coded.{codes};
     ghost use Rattle.chc_values.specs.declared.world.WorldEntry.{WorldEntry};
     ghost use Rattle.chc_values.specs.contracts.value.Value as value;
+    ghost use Rattle.chc_values.specs.Worlds.{KeysOnce};
 
     ghost Value = { List WorldEntry };
 
     ghost coded = { Prim.hlevel (codes, value.the_row.coded) };
 
     ghost view = { λ w. w.entries };
+
+    ghost invariant = { λ w. ∥ KeysOnce w.entries ∥₁ };
 }
 
 impl World {
@@ -48,9 +52,10 @@ impl World {
         }
     }
 
-    /// The entries in the order of adding.
+    /// The entries in the order of adding. No two of them speak of the same key.
     pub fn entries(&self) -> &List<WorldEntry>
-        ensures { result.now ≡ self.now }
+        ensures value { result.now ≡ self.now }
+        ensures once { ∥ KeysOnce self.now ∥₁ }
     {
         &self.entries
     }

@@ -1,0 +1,117 @@
+//! The jobs over byte lists.
+
+mod slicing;
+
+ghost use Rattle.std.specs.Prelude.{◌≡◌, ◌<◌, ◌^◌, length, IfOk, IfErr};
+ghost use Rattle.sha2.specs.Sha256.{sha256};
+ghost use Rattle.chc_trace.specs.Traces.{trace_lines};
+ghost use Rattle.chc_sorts.specs.Signature.{no_datatypes};
+ghost use Rattle.chc_jobs.specs.Jobs.{IsPrinted, Finishes, Normalises, IsScriptRefusal, not_yet_fault};
+
+use chc_sorts::List;
+use chc_print::script_text;
+use chc_script::{Names, Script, read_first};
+use chc_sexpr::{Fault, TextErr, TextFault};
+use chc_source::{ByteText, NoMemory};
+use chc_state::{State, Step};
+use chc_trace::{Trace, digest, trace_text};
+use slicing::{Sliced, slice};
+use std::alloc::Global;
+
+/// A normalised script.
+#[derive(Debug, Drop)]
+pub struct Normalised {
+    /// The text of the simplified script.
+    pub out: ByteText,
+    /// The text of the trace that leads there.
+    pub trace: ByteText,
+    /// How many clauses the script has.
+    pub before: u64,
+    /// How many clauses the simplified one has.
+    pub after: u64,
+    /// How many steps were taken.
+    pub steps: u64,
+}
+
+/// The fault of a text that this version doesn't read.
+fn not_yet(alloc: Global) -> TextErr
+    ensures { result ≡ TextErr.At not_yet_fault }
+{
+    TextErr::At(TextFault {
+        place: 0,
+        fault: Fault::NotYet,
+        name: ByteText::new(alloc),
+    })
+}
+
+/// The two texts that a job writes.
+#[derive(Drop)]
+struct Texts {
+    out: ByteText,
+    trace: ByteText,
+}
+
+/// The text of the trace of these steps beside the text that they lead to.
+fn traced(alloc: Global, script: &[u8], steps: List<Step>, out: ByteText) -> Result<Texts, NoMemory>
+    ensures same { IfOk result (λ t. t.out ≡ out) }
+    ensures tells { IfOk result (λ t. t.trace ≡ trace_lines (record { source = sha256 script.now; steps = steps; target = out })) }
+{
+    let source = digest(script);
+    let trace = Trace {
+        source,
+        steps,
+        target: out,
+    };
+    let text = trace_text(alloc, &trace)?;
+    Ok(Texts {
+        out: trace.target,
+        trace: text,
+    })
+}
+
+/// The text of a state without datatypes.
+fn print(alloc: Global, state: &State, names: &Names) -> Result<ByteText, NoMemory>
+    requires { state.now.sig ≡ no_datatypes }
+    ensures { IfOk result (IsPrinted state.now names.now) }
+{
+    Ok(script_text(alloc, state, names)?)
+}
+
+/// The text of the state that slices leave of this one, and the trace that leads there.
+fn finish(alloc: Global, script: &[u8], names: &Names, state: State) -> Result<Normalised, NoMemory>
+    requires { state.sig ≡ no_datatypes }
+    ensures { IfOk result (λ n. Finishes script.now names.now state n.out n.trace n.before n.after n.steps) }
+{
+    let before = state.clauses().len() as u64;
+    let Sliced { state, steps } = slice(alloc, state)?;
+    let after = state.clauses().len() as u64;
+    let count = steps.len() as u64;
+    let out = print(alloc, &state, names)?;
+    let texts = traced(alloc, script, steps, out)?;
+    Ok(Normalised {
+        out: texts.out,
+        trace: texts.trace,
+        before,
+        after,
+        steps: count,
+    })
+}
+
+/// Simplifies a script of at most 4,294,967,295 bytes without changing its answer: in every world false
+/// is derived from the printed clauses exactly where it is from the script's.
+///
+/// Errors: `At` with the fault `NotYet` at place 0 where the bytes are no script that this version
+/// reads, `NoMemory`.
+pub fn normalise(alloc: Global, script: &[u8]) -> Result<Normalised, TextErr>
+    requires { length script.now < 2 ^ 32 }
+    ensures ok { IfOk result (λ n. Normalises script.now n.out n.trace n.before n.after n.steps) }
+    ensures refused { IfErr result (IsScriptRefusal script.now) }
+{
+    match read_first(alloc, script)? {
+        None => Err(not_yet(alloc)),
+        Some(read) => {
+            let Script { state, names } = read;
+            Ok(finish(alloc, script, &names, state)?)
+        }
+    }
+}

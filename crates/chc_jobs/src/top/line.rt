@@ -1,0 +1,81 @@
+//! The one line that a run prints.
+
+ghost use Rattle.std.specs.Prelude.{decimal};
+ghost use Rattle.chc_jobs.specs.Lines.{line, words_of, counted, outcome_line, fault_line, Puts};
+
+use super::status::{Outcome, Status};
+use chc_sexpr::TextFault;
+use chc_source::{Failed, Sink};
+use itoa::Buffer;
+
+/// Puts all of the bytes, in as many pieces as the sink wants.
+fn put_all<K: Sink>(say: &mut K, bytes: &[u8]) -> Result<(), Failed>
+    ensures { Puts bytes.now (K.output say.old) result (K.output say.new) }
+{
+    let mut done = 0;
+    while done < bytes.len() {
+        done += say.put(&bytes[done..])?;
+    }
+    Ok(())
+}
+
+/// Puts a number in decimal.
+fn put_number<K: Sink>(say: &mut K, n: u64) -> Result<(), Failed>
+    ensures { Puts (decimal n) (K.output say.old) result (K.output say.new) }
+{
+    let mut buffer = Buffer::new();
+    put_all(say, buffer.format(n).as_bytes())
+}
+
+/// Puts a text and a number after it.
+fn put_counted<K: Sink>(say: &mut K, text: &[u8], n: u64) -> Result<(), Failed>
+    ensures { Puts (counted text.now n) (K.output say.old) result (K.output say.new) }
+{
+    put_all(say, text)?;
+    put_number(say, n)
+}
+
+/// Puts the numbers of a normalised script.
+fn put_normalised<K: Sink>(say: &mut K, before: u64, after: u64, steps: u64) -> Result<(), Failed>
+    ensures { Puts (outcome_line (Outcome.Normalised before after steps)) (K.output say.old) result (K.output say.new) }
+{
+    put_counted(say, b"normalised: clauses ", before)?;
+    put_counted(say, b" to ", after)?;
+    put_counted(say, b", steps ", steps)
+}
+
+/// Puts a fault with its place.
+fn put_fault<K: Sink>(say: &mut K, text: &[u8], fault: &TextFault) -> Result<(), Failed>
+    ensures { Puts (fault_line text.now fault.now) (K.output say.old) result (K.output say.new) }
+{
+    put_counted(say, text, fault.place)?;
+    put_all(say, b": ")?;
+    put_all(say, fault.fault.name())
+}
+
+/// Puts what the line of a status says.
+fn put_words<K: Sink>(say: &mut K, status: &Status) -> Result<(), Failed>
+    ensures { Puts (words_of status.now) (K.output say.old) result (K.output say.new) }
+{
+    match status {
+        Status::Done(Outcome::Normalised {
+            before,
+            after,
+            steps,
+        }) => put_normalised(say, *before, *after, *steps),
+        Status::Usage => put_all(say, b"usage: chc normalise SCRIPT OUT TRACE"),
+        Status::ScriptRefused(fault) => put_fault(say, b"script refused at ", fault),
+        Status::ReadFault(word) => put_counted(say, b"cannot read word ", *word as u64),
+        Status::WriteFault(word) => put_counted(say, b"cannot write word ", *word as u64),
+        Status::TooLong(word) => put_counted(say, b"too long: word ", *word as u64),
+        Status::NoMemory => put_all(say, b"no memory"),
+    }
+}
+
+/// Puts the line of a status. It takes no memory.
+pub(crate) fn put_line<K: Sink>(say: &mut K, status: &Status) -> Result<(), Failed>
+    ensures { Puts (line status.now) (K.output say.old) result (K.output say.new) }
+{
+    put_words(say, status)?;
+    put_all(say, b"\n")
+}

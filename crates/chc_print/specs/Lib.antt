@@ -1,0 +1,4 @@
+pub mod Symbols
+pub mod Prefix
+pub mod Texts
+pub mod Script

@@ -1,0 +1,97 @@
+//! The prefix of the variables' names.
+
+ghost use Rattle.std.specs.Prelude.{◌≡◌, ℕ, ◌<◌, ◌≤◌, false, true, length, slice_index_or, IfOk};
+ghost use Rattle.chc_print.specs.Prefix.{begins_numbered, is_taken, marked, takes_marks, marks_from, IsVariablePrefix};
+
+use chc_sorts::{List, Name, NoMemory};
+use chc_source::ByteText;
+use std::alloc::Global;
+
+/// How many exclamation marks stand before a digit at the beginning of the bytes, where there is nothing else before it.
+fn marks_before_digit(bytes: &[u8]) -> Option<usize>
+    ensures { result ≡ marks_from 0 bytes.now }
+{
+    for (marks, b) in bytes.iter().enumerate() {
+        if b.is_ascii_digit() {
+            return Some(marks);
+        }
+        if *b != b'!' {
+            return None;
+        }
+    }
+    None
+}
+
+/// The number of marks for which the name begins with that prefix and a digit, if there is one.
+fn marks_taken(name: &[u8]) -> Option<usize>
+    ensures { (k : ℕ) → begins_numbered (marked k) name.now ≡ takes_marks k result }
+{
+    match name {
+        [first, rest @ ..] if *first == b'x' => marks_before_digit(rest),
+        _ => None,
+    }
+}
+
+/// The length of the longest name: no name takes so many marks or more.
+fn longest(names: &[Name]) -> usize
+    ensures { (k : ℕ) → result ≤ k → is_taken names.now (marked k) ≡ false }
+{
+    let mut most = 0;
+    for name in names {
+        if most < name.len() {
+            most = name.len();
+        }
+    }
+    most
+}
+
+/// Which of the first `count` numbers of marks some name takes.
+fn taken_marks(alloc: Global, names: &[Name], count: usize) -> Result<Vec<bool>, NoMemory>
+    ensures size { IfOk result (λ taken. length taken.items ≡ count) }
+    ensures value { IfOk result (λ taken. (k : ℕ) → k < count → slice_index_or taken.items k false ≡ is_taken names.now (marked k)) }
+{
+    let mut taken = vec![in alloc; false; count]?;
+    for name in names {
+        if let Some(marks) = marks_taken(name.as_slice()) {
+            if marks < taken.len() {
+                taken[marks] = true;
+            }
+        }
+    }
+    Ok(taken)
+}
+
+/// The first place at which there is no `true`, or the length.
+fn first_free(taken: &[bool]) -> usize
+    ensures within { result ≤ length taken.now }
+    ensures before { (k : ℕ) → k < result → slice_index_or taken.now k false ≡ true }
+    ensures found { result < length taken.now → slice_index_or taken.now result false ≡ false }
+{
+    for (k, is_taken) in taken.iter().enumerate() {
+        if !*is_taken {
+            return k;
+        }
+    }
+    taken.len()
+}
+
+/// An `x` with so many exclamation marks.
+fn marked_prefix(alloc: Global, marks: usize) -> Result<ByteText, NoMemory>
+    ensures { IfOk result (λ prefix. prefix ≡ marked marks) }
+{
+    let mut prefix = ByteText::new(alloc);
+    prefix.push(b'x')?;
+    for _ in 0..marks {
+        prefix.push(b'!')?;
+    }
+    Ok(prefix)
+}
+
+/// The prefix with the fewest exclamation marks that no name begins with, with a digit behind it.
+pub fn variable_prefix(alloc: Global, names: &[Name]) -> Result<ByteText, NoMemory>
+    ensures { IfOk result (λ prefix. IsVariablePrefix names.now prefix) }
+{
+    let count = longest(names);
+    let taken = taken_marks(alloc, names, count)?;
+    marked_prefix(alloc, first_free(taken.as_slice()))
+}

@@ -1,0 +1,4 @@
+pub mod Ints
+pub mod Live
+pub mod Tables
+pub mod TermLaws

@@ -1,0 +1,6 @@
+pub mod Clauses
+pub mod Names
+pub mod Readings
+pub mod Scripts
+pub mod Shapes
+pub mod Terms

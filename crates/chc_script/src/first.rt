@@ -1,0 +1,12 @@
+//! First scripts: a plain form of script, with `Int` as the only sort, read into a state.
+
+mod assertion;
+mod declared;
+mod draft;
+mod names;
+mod premise;
+mod script;
+mod shape;
+mod term;
+
+pub use script::{Names, Script, read_first};

@@ -1,0 +1,6 @@
+pub mod Drafts
+pub mod Faults
+pub mod Lexemes
+pub mod Pieces
+pub mod Tokens
+pub mod Trees

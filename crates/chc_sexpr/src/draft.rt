@@ -1,0 +1,70 @@
+//! What a reader of trees has read so far.
+
+ghost use Rattle.std.specs.Prelude.{◌≡◌, ◌<◌, ℕ, List, [], ◌∷◌, length, OnOk};
+ghost use Rattle.chc_sexpr.specs.Drafts.{GoesOn};
+ghost use Rattle.chc_sexpr.specs.Pieces.{IsToken};
+ghost use Rattle.chc_sexpr.specs.Lexemes.{Open, Close, Piece, most_open};
+
+use crate::tree::{Tree, Trees};
+use chc_sorts::{List, NoMemory};
+use std::alloc::Global;
+use std::mem;
+
+/// A group whose `(` has been read, and whose `)` has not.
+#[derive(Drop)]
+pub struct OpenGroup {
+    /// The place of its `(`.
+    pub place: u64,
+    /// The trees that stand before it in the group around it.
+    pub before: Trees,
+}
+
+/// The groups that are open, outermost first, and the trees of the innermost so far.
+#[derive(Drop)]
+pub struct Draft {
+    pub groups: List<OpenGroup>,
+    pub trees: Trees,
+}
+
+impl Draft {
+    /// Nothing read.
+    pub fn new(alloc: Global) -> Draft
+        ensures groups { result.groups ≡ [] }
+        ensures trees { result.trees ≡ [] }
+    {
+        Draft {
+            groups: List::new(alloc),
+            trees: List::new(alloc),
+        }
+    }
+
+    /// Reads a `(`.
+    pub fn open(&mut self, alloc: Global, place: u64) -> Result<(), NoMemory>
+        requires { length self.old.groups < most_open }
+        ensures { OnOk result (GoesOn self.old self.new (Open place)) }
+    {
+        let before = mem::replace(&mut self.trees, List::new(alloc));
+        self.groups.push(OpenGroup { place, before })?;
+        Ok(())
+    }
+
+    /// Reads a `)`.
+    pub fn close(&mut self) -> Result<(), NoMemory>
+        requires { 0 < length self.old.groups }
+        ensures { OnOk result (GoesOn self.old self.new Close) }
+    {
+        if let Some(OpenGroup { place, before }) = self.groups.pop() {
+            let inner = mem::replace(&mut self.trees, before);
+            self.trees.push(Tree::Group(place, inner))?;
+        }
+        Ok(())
+    }
+
+    /// Reads a tree that is one piece.
+    pub fn add(&mut self, tree: Tree) -> Result<(), NoMemory>
+        ensures { OnOk result ((place : ℕ) (piece : List ℕ) → IsToken place piece tree → GoesOn self.old self.new (Piece place piece)) }
+    {
+        self.trees.push(tree)?;
+        Ok(())
+    }
+}

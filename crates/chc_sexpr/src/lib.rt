@@ -1,0 +1,15 @@
+//! Trees of tokens: what a script, a trace or an answer is before it is understood.
+#![tactic(auto)]
+
+mod draft;
+mod fault;
+mod read;
+mod token;
+mod tree;
+
+pub use fault::{Fault, TextErr, TextFault};
+pub use read::{read_plain, trees_are_spelled_once};
+pub use tree::{Tree, Trees};
+
+#[cfg(test)]
+mod tests;

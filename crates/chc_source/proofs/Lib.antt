@@ -1,0 +1,4 @@
+pub mod Outsides
+pub mod Fronts
+pub mod Written
+pub mod Gathered

@@ -1,0 +1,4 @@
+pub mod Charges
+pub mod Limiting
+pub mod Members
+pub mod Transfers

@@ -1,0 +1,13 @@
+//! Traces: the steps that lead from a script to another, as a text.
+#![tactic(auto)]
+
+mod hashing;
+mod text;
+mod trace;
+
+pub use hashing::digest;
+pub use text::trace_text;
+pub use trace::Trace;
+
+#[cfg(test)]
+mod tests;

@@ -1,0 +1,9 @@
+use Rattle.chc_state.specs.Steps.{is_unneeded}
+use Rattle.pass_slice.specs.Tables.{Bounds}
+use Rattle.pass_slice.proofs.unneeded.spread.Given as goal
+
+abbrev pub invariant-loop-k : goal.invariant-loop-k
+invariant-loop-k l = Bounds is_unneeded l.s l.table.items
+
+abbrev pub invariant-loop-i : goal.invariant-loop-i
+invariant-loop-i l = Bounds is_unneeded l.s l.table.items

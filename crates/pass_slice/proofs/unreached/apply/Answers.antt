@@ -1,0 +1,60 @@
+use Rattle.std.proofs.Common.{◌≡◌, length, sym, ap, ◌∙◌, subst, arith, refl}
+use Rattle.chc_state.specs.declared.step.Step.TheVariants as step
+use Rattle.chc_state.specs.States.{StateView, uses_live}
+use Rattle.chc_state.specs.Limits.{first_passed}
+use Rattle.chc_state.specs.Steps.{body_meets, after, Applies}
+use Rattle.pass_slice.proofs.Removing.{applies, uses_live-after}
+use Rattle.pass_slice.proofs.Taking.{left_is, length-after}
+use Rattle.pass_slice.proofs.unreached.apply.Goals as goal
+use Rattle.pass_slice.proofs.unreached.apply.Goals.{After-retire}
+
+was : After-retire → StateView
+was c = record { sig = c.into_parts-sig.result.0; preds = c.into_parts-sig.result.1; clauses = c.into_parts-sig.result.2 }
+
+left : After-retire → StateView
+left c = record { sig = c.into_parts-sig.result.0; preds = c.retire.result; clauses = c.without_users-clauses.result }
+
+is : (c : After-retire) → left c ≡ after c.args.s (step.Unreached c.args.ps.now)
+unfolding was left
+is c =
+    left_is body_meets c.args.s c.args.ps.now (left c) (record {
+      table = c.in-Ok.table.items;
+      clauses_table = c.deref.result.now;
+      preds_table = c.deref-2.result.now;
+      was = was c;
+      same = c.in-Ok.ensures;
+      one = c.deref.ensures.value;
+      two = c.deref-2.ensures.value;
+      parts = c.into_parts-sig.ensures.value;
+      sig = refl;
+      clauses = c.without_users-clauses.ensures;
+      preds = c.retire.ensures;
+    })
+
+pub of_parts-requires-clause-few : goal.of_parts-requires-clause-few
+unfolding was left
+of_parts-requires-clause-few c =
+    let x = step.Unreached c.args.ps.now in
+    let same = is (goal.at.of_parts-requires-clause-few c).After-retire in
+    omega (arith, ap (λ (z : StateView). length z.preds) same, length-after c.args.s x, ap (λ (z : StateView). length z.preds) c.into_parts-sig.ensures.value, c.into_parts-sig.ensures.few)
+
+pub of_parts-requires-clause-live : goal.of_parts-requires-clause-live
+unfolding was left
+of_parts-requires-clause-live c =
+    let x = step.Unreached c.args.ps.now in
+    let same = is (goal.at.of_parts-requires-clause-live c).After-retire in
+    ap (λ (z : StateView). uses_live z.preds z.clauses) same
+    ∙ uses_live-after c.args.s x c.requires (ap (λ (z : StateView). uses_live z.preds z.clauses) (sym c.into_parts-sig.ensures.value) ∙ c.into_parts-sig.ensures.live)
+
+pub of_parts-requires-clause-within : goal.of_parts-requires-clause-within
+unfolding was left
+of_parts-requires-clause-within c =
+    let same = is (goal.at.of_parts-requires-clause-within c).After-retire in
+    ap (λ (z : StateView). first_passed z.preds z.clauses) same ∙ c.requires.within
+
+pub returns-clause-applied : goal.returns-clause-applied
+unfolding was left
+returns-clause-applied c =
+    let x = step.Unreached c.args.ps.now in
+    let same : c.of_parts.result ≡ after c.args.s x = c.of_parts.ensures ∙ is (goal.at.returns-clause-applied c).After-retire in
+    subst (λ z. Applies c.args.s x z) (sym same) (applies c.args.s x c.requires)

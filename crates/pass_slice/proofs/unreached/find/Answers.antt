@@ -1,0 +1,9 @@
+use Rattle.std.proofs.Common.{List, Bool, sym, subst}
+use Rattle.chc_state.specs.Steps.{is_unreached}
+use Rattle.pass_slice.specs.Tables.{Bounds}
+use Rattle.pass_slice.proofs.Bounding.{Bounds-live}
+use Rattle.pass_slice.proofs.unreached.find.Goals as goal
+
+pub spread-requires : goal.spread-requires
+spread-requires c =
+    subst (λ (table : List Bool). Bounds is_unreached c.args.s.now table) (sym c.in_ok-table.ensures) (Bounds-live is_unreached c.args.s.now)

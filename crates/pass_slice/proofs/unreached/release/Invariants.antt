@@ -1,0 +1,6 @@
+use Rattle.chc_state.specs.Steps.{is_unreached}
+use Rattle.pass_slice.specs.Tables.{Bounds}
+use Rattle.pass_slice.proofs.unreached.release.Given as goal
+
+abbrev pub invariant-loop-k : goal.invariant-loop-k
+invariant-loop-k l = Bounds is_unreached l.s l.table.items

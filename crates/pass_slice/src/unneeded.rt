@@ -1,0 +1,181 @@
+//! Predicates that no query needs.
+
+ghost use Rattle.std.specs.Prelude.{◌≡◌, true, false, not, ◌||◌, IsTrue, IfOk, IfErr, MatchOption, filter, nat_eq};
+ghost use Rattle.std.specs.List.{list_any};
+ghost use Rattle.chc_state.specs.declared.clause.Atom.{Atom};
+ghost use Rattle.chc_state.specs.Steps.{IsLegal, Applies, Finds, is_unneeded, body_meets, head_meets};
+ghost use Rattle.chc_state.specs.declared.step.Step.TheVariants as step;
+ghost use Rattle.pass_slice.specs.Tables.{marked, Bounds, Needs, Strikes, AtPlace};
+
+use crate::sets;
+use chc_sorts::{List, NoMemory};
+use chc_state::{Atom, Clause, State};
+use std::alloc::Global;
+
+/// The greatest set of live predicates that no query, and no clause that concludes a predicate outside
+/// the set, has in its body, ascending; false is derived without them. `None` where only the empty set
+/// is such. Refuses only for want of memory.
+pub fn find(alloc: Global, s: &State) -> Result<Option<List<u32>>, NoMemory>
+    ensures { IfOk result (Finds is_unneeded step.Unneeded s.now) }
+{
+    let mut table = sets::live_table(alloc, s)?;
+    spread(alloc, s, &mut table)?;
+    settle(s, &mut table);
+    chosen(alloc, s, &table)
+}
+
+/// Takes out of the table what queries need, in time linear in the clauses: a clause is looked at again
+/// once the predicate that it concludes is needed.
+fn spread(alloc: Global, s: &State, table: &mut Vec<bool>) -> Result<(), NoMemory>
+    requires { Bounds is_unneeded s.now table.old.items }
+    ensures { Bounds is_unneeded s.now table.new.items }
+{
+    let concluders = concluders_of(alloc, s)?;
+    let mut needed = Vec::new(alloc);
+    for k in 0..s.clauses().len() {
+        look(s, k, table, &mut needed)?;
+    }
+    for i in 0..table.len() {
+        let Some(p) = needed.get(i) else { break };
+        let p = *p as usize;
+        if p < concluders.len() {
+            look_at_all(s, &concluders[p], table, &mut needed)?;
+        }
+    }
+    Ok(())
+}
+
+/// Looks at each of these clauses.
+fn look_at_all(
+    s: &State,
+    numbers: &[usize],
+    table: &mut Vec<bool>,
+    needed: &mut Vec<u32>,
+) -> Result<(), NoMemory>
+    requires { Bounds is_unneeded s.now table.old.items }
+    ensures { Bounds is_unneeded s.now table.new.items }
+{
+    for k in numbers {
+        look(s, *k, table, needed)?;
+    }
+    Ok(())
+}
+
+/// Takes what clause `k` needs out of the table, and notes it.
+fn look(s: &State, k: usize, table: &mut Vec<bool>, needed: &mut Vec<u32>) -> Result<(), NoMemory>
+    requires { Bounds is_unneeded s.now table.old.items }
+    ensures { Bounds is_unneeded s.now table.new.items }
+{
+    while let Some(p) = candidate(s, k, table) {
+        table[p as usize] = false;
+        needed.push(p)?;
+    }
+    Ok(())
+}
+
+/// Takes out of the table what is needed still, clause by clause, until there is nothing left.
+fn settle(s: &State, table: &mut Vec<bool>)
+    requires { Bounds is_unneeded s.now table.old.items }
+    ensures bounds { Bounds is_unneeded s.now table.new.items }
+    ensures settled { IsTrue (is_unneeded s.now.clauses (marked table.new.items)) }
+{
+    while let Some(p) = breaker(s, table) {
+        table[p as usize] = false;
+    }
+}
+
+/// Some predicate that some clause needs, if there is one.
+fn breaker(s: &State, table: &[bool]) -> Option<u32>
+    requires { Bounds is_unneeded s.now table.now }
+    ensures { MatchOption result (IsTrue (is_unneeded s.now.clauses (marked table.now))) (Strikes is_unneeded s.now table.now) }
+{
+    for k in 0..s.clauses().len() {
+        if let Some(p) = candidate(s, k, table) {
+            return Some(p);
+        }
+    }
+    None
+}
+
+/// Some predicate that clause `k` needs, if there is one.
+fn candidate(s: &State, k: usize, table: &[bool]) -> Option<u32>
+    requires { Bounds is_unneeded s.now table.now }
+    ensures { MatchOption result (AtPlace (λ c. head_meets (marked table.now) c || not (body_meets (marked table.now) c)) s.now.clauses k) (Strikes is_unneeded s.now table.now) }
+{
+    match s.clauses().get(k) {
+        Some(c) => needed_by(table, c),
+        None => None,
+    }
+}
+
+/// A predicate that the clause needs: a marked one of its body, where its head's isn't marked.
+fn needed_by(table: &[bool], c: &Clause) -> Option<u32>
+    ensures { MatchOption result (IsTrue (head_meets (marked table.now) c.now || not (body_meets (marked table.now) c.now))) (Needs (marked table.now) c.now) }
+{
+    if sets::head_is_marked(table, c) {
+        None
+    } else {
+        first_marked(table, c.body.as_slice())
+    }
+}
+
+/// The first marked predicate of these atoms.
+fn first_marked(table: &[bool], atoms: &[Atom]) -> Option<u32>
+    ensures { MatchOption result (list_any (λ (a : Atom). marked table.now a.pred) atoms.now ≡ false)
+        (λ p. (marked table.now p ≡ true) × (list_any (λ (a : Atom). nat_eq a.pred p) atoms.now ≡ true)) }
+{
+    for a in atoms {
+        if sets::is_marked(table, a.pred) {
+            return Some(a.pred);
+        }
+    }
+    None
+}
+
+/// What is marked, if anything is.
+fn chosen(alloc: Global, s: &State, table: &[bool]) -> Result<Option<List<u32>>, NoMemory>
+    requires bounds { Bounds is_unneeded s.now table.now }
+    requires settled { IsTrue (is_unneeded s.now.clauses (marked table.now)) }
+    ensures { IfOk result (Finds is_unneeded step.Unneeded s.now) }
+{
+    // A state has fewer than 2^32 predicates, and is within the limits.
+    let (_preds, _clauses) = (s.preds(), s.clauses());
+    let found = sets::some_numbers(alloc, table)?;
+    Ok(found)
+}
+
+/// For each predicate the clauses that conclude it.
+fn concluders_of(alloc: Global, s: &State) -> Result<Vec<Vec<usize>>, NoMemory> {
+    let mut concluders = sets::empty_lists(alloc, s.preds().len())?;
+    for (k, c) in s.clauses().as_slice().iter().enumerate() {
+        if let Some(a) = &c.head {
+            sets::note(&mut concluders, a.pred, k)?;
+        }
+    }
+    Ok(concluders)
+}
+
+/// The state without these predicates and without the clauses that conclude one of them. It answers as
+/// before. Where memory is refused, the state comes back.
+pub fn apply(alloc: Global, s: State, ps: &List<u32>) -> Result<State, (State, NoMemory)>
+    requires { IsLegal s (step.Unneeded ps.now) }
+    ensures applied { IfOk result (λ z. Applies s (step.Unneeded ps.now) z) }
+    ensures back { IfErr result (λ e. e.0 ≡ s) }
+{
+    let table = match sets::table_for(alloc, &s, ps) {
+        Ok(table) => table,
+        Err(refused) => return Err((s, refused)),
+    };
+    let (sig, preds, clauses) = s.into_parts();
+    let clauses = without_concluders(&table, clauses);
+    Ok(State::of_parts(sig, sets::retire(&table, preds), clauses))
+}
+
+/// The clauses that conclude no marked predicate, in order.
+fn without_concluders(table: &[bool], clauses: List<Clause>) -> List<Clause>
+    ensures { result ≡ filter (λ c. not (head_meets (marked table.now) c)) clauses }
+{
+    let mut kept = clauses.into_vec();
+    kept.retain(|c| !sets::head_is_marked(table, c));
+    List::from_vec(kept)
+}
