@@ -9,6 +9,7 @@ mod tree;
 
 pub use fault::{Fault, TextErr, TextFault};
 pub use read::{read_plain, trees_are_spelled_once};
+pub use token::{is_reserved, is_simple_symbol};
 pub use tree::{Tree, Trees};
 
 #[cfg(test)]
