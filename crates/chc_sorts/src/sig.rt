@@ -127,6 +127,14 @@ impl Sig {
             groups: List::new(alloc),
         }
     }
+
+    /// The datatypes by number.
+    pub fn datatypes(&self) -> &List<Data>
+        ensures { result.now ≡ self.now.datatypes }
+    {
+        &self.datatypes
+    }
+
     /// An equal signature on fresh memory.
     pub fn copy(&self, alloc: Global) -> Result<Sig, NoMemory>
         ensures { IfOk result (λ s. s ≡ self.now) }
