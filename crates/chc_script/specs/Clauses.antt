@@ -42,6 +42,7 @@ ints (suc n) = sort.Int ∷ ints n
 abbrev pub with_predicate : DeclaredView → List ℕ → ℕ → DeclaredView
 with_predicate declared name n = record { names = declared.names ++ name ∷ []; preds = declared.preds ++ record { sorts = ints n; live = true } ∷ [] }
 
+-- whether there is such a predicate, live and of n positions
 abbrev pub decl_takes : ℕ → Option PredDecl → Bool
 decl_takes n None = false
 decl_takes n (Some decl) = decl.live && nat_eq (length decl.sorts) n
@@ -50,6 +51,7 @@ decl_takes n (Some decl) = decl.live && nat_eq (length decl.sorts) n
 abbrev pub takes : List PredDecl → ℕ → ℕ → Bool
 takes preds p n = decl_takes n (slice_get preds p)
 
+-- a symbol's name without arguments, and otherwise the form
 abbrev pub applied_at : Option (List ℕ) → Option (List ℕ × List Tree) → Option (List ℕ × List Tree)
 applied_at None form = form
 applied_at (Some name) form = Some (name, [])
@@ -58,6 +60,7 @@ applied_at (Some name) form = Some (name, [])
 abbrev pub applied_of : Tree → Option (List ℕ × List Tree)
 applied_of tree = applied_at (symbol_of tree) (form_of tree)
 
+-- the constraint on two terms that have both been read
 abbrev pub operands_at : Op → Option Term → Option Term → Option Part
 operands_at o None t = None
 operands_at o (Some s) None = None
@@ -76,6 +79,7 @@ abbrev pub with_part : Premise → Part → Premise
 with_part premise (part.Constraint term) = record { conj = premise.conj ++ term ∷ []; body = premise.body }
 with_part premise (part.Atom atom) = record { conj = premise.conj; body = premise.body ++ atom ∷ [] }
 
+-- the arguments of a form `and` of at least two, and otherwise the tree alone
 abbrev pub conjuncts_at : Tree → Option (List ℕ × List Tree) → List Tree
 conjuncts_at tree None = tree ∷ []
 conjuncts_at tree (Some (name, [])) = tree ∷ []
@@ -90,6 +94,7 @@ conjuncts_of tree = conjuncts_at tree (form_of tree)
 abbrev pub clause_of : ℕ → Premise → Option Atom → Clause
 clause_of n premise head = record { vars = ints n; conj = premise.conj; body = premise.body; head = head; weight = 1 }
 
+-- the clause of a premise and a head that have both been read
 abbrev pub implication_at : ℕ → Option Premise → Option (Option Atom) → Option Clause
 implication_at n None head = None
 implication_at n (Some premise) None = None
@@ -105,6 +110,7 @@ module _ (declared : DeclaredView) (vars : List (List ℕ)) where
   abbrev pub atom_of : Tree → Option Atom
   atom_of tree = applied_of tree >>= (λ applied. number_of declared.names applied.0 >>= (λ p. atom_on p applied.1))
 
+  -- the constraint on these two trees, and otherwise the other reading
   abbrev pub constraint_or : Op → Option (Tree × Tree) → Option Part → Option Part
   constraint_or o None otherwise = otherwise
   constraint_or o (Some operands) otherwise = constraint_on vars o operands
@@ -129,6 +135,7 @@ module _ (declared : DeclaredView) (vars : List (List ℕ)) where
   abbrev pub head_of : Tree → Option (Option Atom)
   head_of tree = cond (is_symbol (codes "false") tree) (Some None) (option_map Some (atom_of tree))
 
+  -- the clause of an implication of these two trees, and otherwise of the atom
   abbrev pub matrix_at : Tree → Option (Tree × Tree) → Option Clause
   matrix_at tree None = option_map (λ atom. clause_of (length vars) no_premise (Some atom)) (atom_of tree)
   matrix_at tree (Some (premise, head)) = implication_at (length vars) (premise_of premise) (head_of head)
@@ -137,6 +144,7 @@ module _ (declared : DeclaredView) (vars : List (List ℕ)) where
   abbrev pub matrix_of : Tree → Option Clause
   matrix_of tree = matrix_at tree (pair_of (codes "=>") tree)
 
+-- the name in a group of a name and the sort Int
 abbrev pub binder_at : Option (List Tree) → Option (List ℕ)
 binder_at None = None
 binder_at (Some []) = None
@@ -161,6 +169,7 @@ abbrev pub variables_after : List (List ℕ) → List (List ℕ) → List Tree �
 variables_after names vars [] = Some vars
 variables_after names vars (t ∷ ts) = variable_of names vars t >>= (λ name. variables_after names (vars ++ name ∷ []) ts)
 
+-- the variables of a group of binders that isn't empty
 abbrev pub variables_at : List (List ℕ) → Option (List Tree) → Option (List (List ℕ))
 variables_at names None = None
 variables_at names (Some []) = None
@@ -170,6 +179,7 @@ variables_at names (Some (t ∷ ts)) = variables_after names [] (t ∷ ts)
 abbrev pub variables_of : List (List ℕ) → Tree → Option (List (List ℕ))
 variables_of names tree = variables_at names (group_of tree)
 
+-- the two trees behind the word `forall` in a group of three
 abbrev pub forall_at : Option (List Tree) → Option (Tree × Tree)
 forall_at None = None
 forall_at (Some []) = None
@@ -182,6 +192,7 @@ forall_at (Some (a ∷ b ∷ c ∷ d ∷ more)) = None
 abbrev pub forall_of : Tree → Option (Tree × Tree)
 forall_of tree = forall_at (group_of tree)
 
+-- the clause of a matrix under these binders, and otherwise of the tree as a matrix
 abbrev pub assertion_at : DeclaredView → Tree → Option (Tree × Tree) → Option Clause
 assertion_at declared tree None = matrix_of declared [] tree
 assertion_at declared tree (Some (binders, matrix)) = variables_of declared.names binders >>= (λ vars. matrix_of declared vars matrix)

@@ -31,16 +31,19 @@ pub record DraftView : Type 0 where
 abbrev pub fresh : DraftView
 fresh = record { stage = stage.Fresh; declared = no_predicates; clauses = [] }
 
+-- whether no command has been read
 abbrev pub is_fresh : Stage → Bool
 is_fresh stage.Fresh = true
 is_fresh stage.Open = false
 is_fresh stage.Checked = false
 
+-- whether the logic is set and the script isn't checked yet
 abbrev pub is_open : Stage → Bool
 is_open stage.Fresh = false
 is_open stage.Open = true
 is_open stage.Checked = false
 
+-- whether `(check-sat)` has been read
 abbrev pub is_checked : Stage → Bool
 is_checked stage.Fresh = false
 is_checked stage.Open = false
@@ -56,11 +59,12 @@ set_logic d [] = None
 set_logic d (logic ∷ []) = cond (is_fresh d.stage && is_symbol (codes "HORN") logic) (Some (at_stage stage.Open d)) None
 set_logic d (a ∷ b ∷ more) = None
 
--- how many positions `(Int ..)` says
+-- how many symbols Int a group has, where it has nothing else
 abbrev pub positions_at : Option (List Tree) → Option ℕ
 positions_at None = None
 positions_at (Some trees) = cond (list_all (is_symbol (codes "Int")) trees) (Some (length trees)) None
 
+-- how many positions `(Int ..)` says
 abbrev pub positions_of : Tree → Option ℕ
 positions_of tree = positions_at (group_of tree)
 
@@ -69,6 +73,7 @@ abbrev pub may_declare : DraftView → List ℕ → Bool
 may_declare d name =
     is_open d.stage && nat_eq (length d.clauses) 0 && not (is_fixed name) && not (has_name d.declared.names name) && nat_lt (length d.declared.names) most_predicates
 
+-- the draft with a predicate of a name and a number of positions that have both been read
 abbrev pub declare_at : DraftView → Option (List ℕ) → Option ℕ → Option DraftView
 declare_at d None n = None
 declare_at d (Some name) None = None
@@ -87,6 +92,7 @@ declare d (a ∷ b ∷ []) = None
 declare d (name ∷ positions ∷ values ∷ []) = declare_parts d name positions values
 declare d (a ∷ b ∷ c ∷ e ∷ more) = None
 
+-- the draft with one more clause behind the others
 abbrev pub with_clause : DraftView → Clause → DraftView
 with_clause d c = record { stage = d.stage; declared = d.declared; clauses = d.clauses ++ c ∷ [] }
 

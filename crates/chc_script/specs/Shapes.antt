@@ -5,6 +5,7 @@ use Rattle.std.specs.Str.{bytes_eq}
 use Rattle.chc_sexpr.specs.declared.tree.Tree.{Tree, out-Tree}
 use Rattle.chc_sexpr.specs.declared.tree.Tree.TheOpen.{Tree-F}
 
+-- the name at a level that is a symbol
 abbrev pub symbol_at : Tree-F Tree → Option (List ℕ)
 symbol_at (Tree-F.Symbol place name) = Some name
 symbol_at (Tree-F.Word place word) = None
@@ -18,6 +19,7 @@ symbol_at (Tree-F.Group place trees) = None
 abbrev pub symbol_of : Tree → Option (List ℕ)
 symbol_of tree = symbol_at (out-Tree tree)
 
+-- the word at a level that is a reserved word
 abbrev pub word_at : Tree-F Tree → Option (List ℕ)
 word_at (Tree-F.Symbol place name) = None
 word_at (Tree-F.Word place word) = Some word
@@ -31,6 +33,7 @@ word_at (Tree-F.Group place trees) = None
 abbrev pub word_of : Tree → Option (List ℕ)
 word_of tree = word_at (out-Tree tree)
 
+-- the trees at a level that is a group
 abbrev pub group_at : Tree-F Tree → Option (List Tree)
 group_at (Tree-F.Symbol place name) = None
 group_at (Tree-F.Word place word) = None
@@ -57,6 +60,7 @@ is_symbol name tree = is_name name (symbol_of tree)
 abbrev pub is_word : List ℕ → Tree → Bool
 is_word word tree = is_name word (word_of tree)
 
+-- the name and the rest of trees that begin with a symbol
 abbrev pub form_at : Option (List Tree) → Option (List ℕ × List Tree)
 form_at None = None
 form_at (Some []) = None
@@ -66,6 +70,7 @@ form_at (Some (head ∷ args)) = option_map (λ name. (name, args)) (symbol_of h
 abbrev pub form_of : Tree → Option (List ℕ × List Tree)
 form_of tree = form_at (group_of tree)
 
+-- the arguments, where there are two and the name is that one
 abbrev pub pair_at : List ℕ → Option (List ℕ × List Tree) → Option (Tree × Tree)
 pair_at name None = None
 pair_at name (Some (head, [])) = None

@@ -34,6 +34,7 @@ group_term (a ∷ b ∷ []) = None
 group_term (head ∷ s ∷ t ∷ []) = sum_of (is_symbol (codes "+") head.0) s.1 t.1
 group_term (a ∷ b ∷ c ∷ d ∷ more) = None
 
+-- the term of a level, whose trees stand beside the terms that they stand for
 abbrev pub term_step : List (List ℕ) → Tree-F (Tree × Option Term) → Option Term
 term_step vars (Tree-F.Symbol place name) = option_map term.Var (number_of vars name)
 term_step vars (Tree-F.Word place word) = None
