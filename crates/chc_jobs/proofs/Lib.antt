@@ -1,3 +1,4 @@
 pub mod Lines
 pub mod SliceRuns
 pub mod RunLaws
+pub mod Fewness

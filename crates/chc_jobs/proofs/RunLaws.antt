@@ -1,10 +1,9 @@
 -- What the parts of a run come to together.
-use Rattle.std.proofs.Common.{◌≡◌, ◌≢◌, ℕ, ◌<◌, ◌≤◌, List, length, refl, sym, ◌∙◌, ap, subst, inl, inr, arith}
-use Rattle.std.specs.Prelude.{◌⊎◌, Some, IsTrue, Option}
+use Rattle.std.proofs.Common.{◌≡◌, ◌≢◌, ℕ, ◌<◌, ◌≤◌, List, length, refl, sym, ◌∙◌, subst, inl, inr, arith}
+use Rattle.std.specs.Prelude.{◌⊎◌, Some}
 use Rattle.chc_source.specs.Outside.{Outside, bytes_at, Rose, Grows, OnlyReads, OnlyWrites, IsCutShort}
-use Rattle.chc_script.specs.Scripts.{ScriptView, ReadsFirst}
-use Rattle.chc_jobs.specs.Jobs.{ReadsNone, not_yet_fault}
-use Rattle.chc_jobs.specs.Runs.{Given, most_bytes, Touches, SameFiles, Makes, HoldBoth, CutsOut, CutsTrace, Told, SomeTexts, Comes, NoFaults, IsDoneOrFree, IsComplete}
+use Rattle.chc_jobs.specs.Jobs.{ReadsNone}
+use Rattle.chc_jobs.specs.Runs.{Given, most_bytes, Touches, Makes, HoldBoth, CutsOut, CutsTrace, Told, SomeTexts, Comes, IsComplete}
 use Rattle.chc_jobs.specs.Refusals.{ReadRefusal, WriteRefusal, BytesRefusal, ScriptRefusal, OutputRefusal}
 use Rattle.chc_jobs.specs.declared.top.status.Outcome.{Outcome}
 use Rattle.chc_jobs.specs.declared.top.status.Status.{Status}
@@ -26,53 +25,53 @@ told-on a b P e told t = told (rw (← e) t)
 
 pub Touches-reads : (g : Given) (a b : Outside) → OnlyReads g.script a b → Touches g a b
 Touches-reads g a b r = record {
-    telling = r.telling;
-    other_files = λ n _ _. r.files n;
-    reads = r.counts;
-    writes = λ n. grows-same _ _ (r.writes n);
-    other_reads = r.other_reads;
-    other_writes = λ n _ _. r.writes n;
-  }
+  telling = r.telling;
+  other_files = λ n _ _. r.files n;
+  reads = r.counts;
+  writes = λ n. grows-same _ _ (r.writes n);
+  other_reads = r.other_reads;
+  other_writes = λ n _ _. r.writes n;
+}
 
 pub Touches-out : (g : Given) (a b : Outside) → OnlyWrites g.out a b → Touches g a b
 Touches-out g a b w = record {
-    telling = w.telling;
-    other_files = λ n apart _. w.other_files n apart;
-    reads = λ n. grows-same _ _ (w.reads n);
-    writes = w.counts;
-    other_reads = λ n _. w.reads n;
-    other_writes = λ n apart _. w.other_writes n apart;
-  }
+  telling = w.telling;
+  other_files = λ n apart _. w.other_files n apart;
+  reads = λ n. grows-same _ _ (w.reads n);
+  writes = w.counts;
+  other_reads = λ n _. w.reads n;
+  other_writes = λ n apart _. w.other_writes n apart;
+}
 
 pub Touches-trace : (g : Given) (a b : Outside) → OnlyWrites g.trace a b → Touches g a b
 Touches-trace g a b w = record {
-    telling = w.telling;
-    other_files = λ n _ apart. w.other_files n apart;
-    reads = λ n. grows-same _ _ (w.reads n);
-    writes = w.counts;
-    other_reads = λ n _. w.reads n;
-    other_writes = λ n _ apart. w.other_writes n apart;
-  }
+  telling = w.telling;
+  other_files = λ n _ apart. w.other_files n apart;
+  reads = λ n. grows-same _ _ (w.reads n);
+  writes = w.counts;
+  other_reads = λ n _. w.reads n;
+  other_writes = λ n _ apart. w.other_writes n apart;
+}
 
 pub Touches-then : (g : Given) (a b c : Outside) → Touches g a b → Touches g b c → Touches g a c
 Touches-then g a b c p q = record {
-    telling = q.telling ∙ p.telling;
-    other_files = λ n x y. q.other_files n x y ∙ p.other_files n x y;
-    reads = λ n. Grows-then _ _ _ (p.reads n) (q.reads n);
-    writes = λ n. Grows-then _ _ _ (p.writes n) (q.writes n);
-    other_reads = λ n x. q.other_reads n x ∙ p.other_reads n x;
-    other_writes = λ n x y. q.other_writes n x y ∙ p.other_writes n x y;
-  }
+  telling = q.telling ∙ p.telling;
+  other_files = λ n x y. q.other_files n x y ∙ p.other_files n x y;
+  reads = λ n. Grows-then _ _ _ (p.reads n) (q.reads n);
+  writes = λ n. Grows-then _ _ _ (p.writes n) (q.writes n);
+  other_reads = λ n x. q.other_reads n x ∙ p.other_reads n x;
+  other_writes = λ n x y. q.other_writes n x y ∙ p.other_writes n x y;
+}
 
 pub Touches-none : (g : Given) (a : Outside) → Touches g a a
 Touches-none g a = record {
-    telling = refl;
-    other_files = λ n _ _. refl;
-    reads = λ n. grows-same _ _ refl;
-    writes = λ n. grows-same _ _ refl;
-    other_reads = λ n _. refl;
-    other_writes = λ n _ _. refl;
-  }
+  telling = refl;
+  other_files = λ n _ _. refl;
+  reads = λ n. grows-same _ _ refl;
+  writes = λ n. grows-same _ _ refl;
+  other_reads = λ n _. refl;
+  other_writes = λ n _ _. refl;
+}
 
 -- a read that was refused
 pub read_refused : (name : List ℕ) (a b : Outside) (s : Status) → ReadRefusal name 1 a b s → ScriptRefusal name a b s
@@ -88,9 +87,12 @@ read_refused name a b status.NoMemory h = h
 pub bytes_refused : (name text : List ℕ) (a b : Outside) (s : Status) → Told a (text ≡ bytes_at a name) → length text ≤ most_bytes → BytesRefusal text s → ScriptRefusal name a b s
 bytes_refused name text a b (status.Done o) read few h = h
 bytes_refused name text a b status.Usage read few h = h
-bytes_refused name text a b (status.ScriptRefused f) read few h = (h.0, λ t.
-    let P : List ℕ → Type 0 = λ bytes. (length bytes ≤ most_bytes) × ReadsNone bytes in
-    subst P (read t) (few, h.1))
+bytes_refused name text a b (status.ScriptRefused f) read few h = (
+  h.0,
+  λ t.
+      let P : List ℕ → Type 0 = λ bytes. (length bytes ≤ most_bytes) × ReadsNone bytes in
+      subst P (read t) (few, h.1),
+)
 bytes_refused name text a b (status.ReadFault k) read few h = absurd h
 bytes_refused name text a b (status.WriteFault k) read few h = h
 bytes_refused name text a b (status.TooLong k) read few h = absurd h
@@ -127,9 +129,9 @@ out_refused g out trace a b status.NoMemory apart w cut h =
 cuts-trace : (g : Given) (out trace : List ℕ) (a b c : Outside) → g.trace ≢ g.out → OnlyWrites g.out a b → Told a (b.held g.out ≡ Some out)
     → OnlyWrites g.trace b c → Told b (IsCutShort g.trace trace b c) → Told a (CutsTrace g out trace a c)
 cuts-trace g out trace a b c apart w held v cut t = record {
-    out_held = v.other_files g.out (λ e. apart (sym e)) ∙ held t;
-    cut = cut-back g.trace trace a b c (w.other_files g.trace apart) (told-back a b _ w.telling cut t);
-  }
+  out_held = v.other_files g.out (λ e. apart (sym e)) ∙ held t;
+  cut = cut-back g.trace trace a b c (w.other_files g.trace apart) (told-back a b _ w.telling cut t);
+}
 
 -- TRACE was refused after OUT was written
 pub trace_refused : (g : Given) (out trace : List ℕ) (a b c : Outside) (s : Status) → g.trace ≢ g.out → OnlyWrites g.out a b → Told a (b.held g.out ≡ Some out)
@@ -148,9 +150,9 @@ trace_refused g out trace a b c status.NoMemory apart w held v cut h =
 pub both_written : (g : Given) (out trace : List ℕ) (a b c : Outside) → g.trace ≢ g.out → OnlyWrites g.out a b → Told a (b.held g.out ≡ Some out)
     → OnlyWrites g.trace b c → Told b (c.held g.trace ≡ Some trace) → Told a (HoldBoth g out trace c)
 both_written g out trace a b c apart w held v written t = record {
-    out_held = v.other_files g.out (λ e. apart (sym e)) ∙ held t;
-    trace_held = told-back a b _ w.telling written t;
-  }
+  out_held = v.other_files g.out (λ e. apart (sym e)) ∙ held t;
+  trace_held = told-back a b _ w.telling written t;
+}
 
 cuts-out-back : (g : Given) (out : List ℕ) (a b c : Outside) → OnlyReads g.script a b → CutsOut g out b c → CutsOut g out a c
 cuts-out-back g out a b c r h = record { cut = cut-back g.out out a b c (r.files g.out) h.cut; trace_same = h.trace_same ∙ r.files g.trace }

@@ -1,9 +1,8 @@
 -- Runs of slices grow by one step at the end.
 use Rattle.std.proofs.Common.{◌≡◌, List, [], ◌∷◌, ◌++◌, refl, sym, ◌∙◌, ap, subst}
-use Rattle.std.specs.Prelude.{◌↔◌, Option, Some, None}
-use Rattle.chc_values.specs.declared.world.WorldEntry.{WorldEntry}
+use Rattle.std.specs.Prelude.{Some}
 use Rattle.chc_state.specs.States.{StateView}
-use Rattle.chc_state.specs.Meaning.{SameAnswer, DerivesFalse}
+use Rattle.chc_state.specs.Meaning.{SameAnswer}
 use Rattle.chc_state.specs.Steps.{IsLegal, Applies, Goes, after}
 use Rattle.chc_state.specs.declared.step.Step.{Step}
 use Rattle.chc_state.specs.declared.step.Step.TheVariants as step

@@ -1,5 +1,5 @@
 -- The line of a status, and what it means to put it.
-use Rattle.std.specs.Prelude.{◌≡◌, ℕ, ◌+◌, List, [], ◌∷◌, ◌++◌, take, codes, decimal, IsTrue, Result, Ok, Err}
+use Rattle.std.specs.Prelude.{◌≡◌, ℕ, List, [], ◌∷◌, ◌++◌, take, codes, decimal, IsTrue, Result, Ok, Err}
 use Rattle.chc_source.specs.Outside.{Rose}
 use Rattle.chc_source.specs.Output.{Output, GoesOn}
 use Rattle.chc_source.specs.declared.sink.Failed.{Failed}

@@ -1,7 +1,6 @@
 -- What a run of the program comes to, by the files before and after it and its status.
 use Rattle.std.specs.Prelude.{◌≡◌, ◌≢◌, ◌⊎◌, ◌≤◌, ◌<◌, ℕ, List, Some, IsTrue, length}
 use Rattle.chc_source.specs.Outside.{Outside, bytes_at, Rose, Grows, IsCutShort}
-use Rattle.chc_sexpr.specs.declared.fault.TextFault.{TextFault}
 use Rattle.chc_script.specs.Scripts.{ScriptView, ReadsFirst}
 use Rattle.chc_jobs.specs.Jobs.{Normalises, ReadsNone, not_yet_fault}
 use Rattle.chc_jobs.specs.declared.top.status.Outcome.{Outcome}

@@ -2,7 +2,7 @@
 use Rattle.std.specs.Prelude.{◌≡◌, List, [], ◌∷◌, Option, Some, None}
 use Rattle.chc_state.specs.States.{StateView}
 use Rattle.chc_state.specs.Meaning.{SameAnswer}
-use Rattle.chc_state.specs.Steps.{IsLegal, Finds, Goes, after, is_unreached, is_unneeded}
+use Rattle.chc_state.specs.Steps.{Finds, Goes, after, is_unreached, is_unneeded}
 use Rattle.chc_state.specs.declared.step.Step.{Step}
 use Rattle.chc_state.specs.declared.step.Step.TheVariants as step
 

@@ -2,7 +2,6 @@
 #![tactic(auto)]
 
 pub mod lift;
-pub mod top;
-
 #[cfg(test)]
 mod tests;
+pub mod top;

@@ -8,10 +8,10 @@ ghost use Rattle.chc_trace.specs.Traces.{trace_lines};
 ghost use Rattle.chc_sorts.specs.Signature.{no_datatypes};
 ghost use Rattle.chc_jobs.specs.Jobs.{IsPrinted, Finishes, Normalises, IsScriptRefusal, not_yet_fault};
 
-use chc_sorts::List;
 use chc_print::script_text;
 use chc_script::{Names, Script, read_first};
 use chc_sexpr::{Fault, TextErr, TextFault};
+use chc_sorts::List;
 use chc_source::{ByteText, NoMemory};
 use chc_state::{State, Step};
 use chc_trace::{Trace, digest, trace_text};
@@ -26,9 +26,9 @@ pub struct Normalised {
     /// The text of the trace that leads there.
     pub trace: ByteText,
     /// How many clauses the script has.
-    pub before: u64,
+    pub before: u32,
     /// How many clauses the simplified one has.
-    pub after: u64,
+    pub after: u32,
     /// How many steps were taken.
     pub steps: u64,
 }
@@ -69,6 +69,14 @@ fn traced(alloc: Global, script: &[u8], steps: List<Step>, out: ByteText) -> Res
     })
 }
 
+/// How many clauses the state has: at most 65,536.
+fn clause_count(state: &State) -> u32
+    ensures { result ≡ length state.now.clauses }
+{
+    let clauses = state.clauses();
+    clauses.len() as u32
+}
+
 /// The text of a state without datatypes.
 fn print(alloc: Global, state: &State, names: &Names) -> Result<ByteText, NoMemory>
     requires { state.now.sig ≡ no_datatypes }
@@ -82,9 +90,9 @@ fn finish(alloc: Global, script: &[u8], names: &Names, state: State) -> Result<N
     requires { state.sig ≡ no_datatypes }
     ensures { IfOk result (λ n. Finishes script.now names.now state n.out n.trace n.before n.after n.steps) }
 {
-    let before = state.clauses().len() as u64;
+    let before = clause_count(&state);
     let Sliced { state, steps } = slice(alloc, state)?;
-    let after = state.clauses().len() as u64;
+    let after = clause_count(&state);
     let count = steps.len() as u64;
     let out = print(alloc, &state, names)?;
     let texts = traced(alloc, script, steps, out)?;

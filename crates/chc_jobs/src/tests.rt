@@ -58,7 +58,11 @@ fn words(alloc: Global, texts: &[&str]) -> Result<Vec<Word>, NoMemory> {
     Ok(words)
 }
 
-fn normalise_files<F: Files>(alloc: Global, files: &mut F, say: &mut MemSink) -> Result<Status, NoMemory> {
+fn normalise_files<F: Files>(
+    alloc: Global,
+    files: &mut F,
+    say: &mut MemSink,
+) -> Result<Status, NoMemory> {
     let words = words(alloc, &["normalise", "script", "out", "trace"])?;
     Ok(run(alloc, words.as_slice(), files, say))
 }
@@ -87,7 +91,7 @@ fn first_run_in_pieces(rt: HostRuntime) -> Result<(), Fail> {
     assert_eq!(rt; status.code(), 0);
     assert_eq!(rt; files.held("out"), Some(OUT));
     assert_eq!(rt; files.held("trace"), Some(TRACE));
-    assert_eq!(rt; say.taken(), b"".as_slice());
+    assert_eq!(rt; say.taken(), b"norma".as_slice());
     Ok(())
 }
 

@@ -14,16 +14,15 @@ ghost use Rattle.chc_jobs.specs.Refusals.{BytesRefusal, ScriptRefusal, OutputRef
 ghost use Rattle.chc_jobs.specs.Lines.{line, HasPut, HasFailed};
 ghost use Rattle.chc_jobs.specs.Commands.{IsNormalise, IsNoCommand};
 
-pub use status::{Outcome, Status};
-pub use word::Word;
-
 use crate::lift::{Normalised, normalise};
 use chc_sexpr::TextErr;
 use chc_source::{Files, Sink};
 use command::{Names, names_of};
 use files::{read_word, write_word};
 use line::put_line;
+pub use status::{Outcome, Status};
 use std::alloc::Global;
+pub use word::Word;
 
 /// Normalises a script's bytes, or gives the status that the run comes to.
 fn normalise_bytes(alloc: Global, script: &[u8]) -> Result<Normalised, Status>
@@ -112,12 +111,7 @@ fn answer<F: Files>(alloc: Global, words: &[Word], files: &mut F) -> Status
 ///
 /// Every other list of words is answered with `Usage`, and nothing is read. A fault of `say` doesn't
 /// change the status.
-pub fn run<F: Files, K: Sink>(
-    alloc: Global,
-    words: &[Word],
-    files: &mut F,
-    say: &mut K,
-) -> Status
+pub fn run<F: Files, K: Sink>(alloc: Global, words: &[Word], files: &mut F, say: &mut K) -> Status
     ensures usage { (result ≡ Status.Usage) ↔ IsNoCommand words.now }
     ensures idle { IsNoCommand words.now → F.outside files.new ≡ F.outside files.old }
     ensures normalise { (script out trace : List ℕ) → IsNormalise words.now script out trace → Comes (given script out trace) (F.outside files.old) (F.outside files.new) result }

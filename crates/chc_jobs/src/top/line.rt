@@ -58,11 +58,13 @@ fn put_words<K: Sink>(say: &mut K, status: &Status) -> Result<(), Failed>
     ensures { Puts (words_of status.now) (K.output say.old) result (K.output say.new) }
 {
     match status {
-        Status::Done(Outcome::Normalised {
-            before,
-            after,
-            steps,
-        }) => put_normalised(say, *before, *after, *steps),
+        Status::Done(
+            Outcome::Normalised {
+                before,
+                after,
+                steps,
+            },
+        ) => put_normalised(say, *before as u64, *after as u64, *steps),
         Status::Usage => put_all(say, b"usage: chc normalise SCRIPT OUT TRACE"),
         Status::ScriptRefused(fault) => put_fault(say, b"script refused at ", fault),
         Status::ReadFault(word) => put_counted(say, b"cannot read word ", *word as u64),

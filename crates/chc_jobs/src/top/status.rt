@@ -9,7 +9,7 @@ use chc_sexpr::TextFault;
 #[derive(Debug, Drop)]
 pub enum Outcome {
     /// A script was normalised: how many clauses it had, how many the printed one has, and in how many steps.
-    Normalised { before: u64, after: u64, steps: u64 },
+    Normalised { before: u32, after: u32, steps: u64 },
 }
 
 /// What a run comes to.

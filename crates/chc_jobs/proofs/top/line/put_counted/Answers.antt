@@ -1,7 +1,6 @@
 use Rattle.std.proofs.lemmas.Result.{err_from_is_err_and}
-use Rattle.std.specs.Prelude.{codes, decimal, ◌∷◌, []}
-use Rattle.chc_jobs.proofs.Lines.{HasPut-then, HasFailed-longer, HasPut-fails, Puts-then}
-use Rattle.chc_jobs.specs.Lines.{counted}
+use Rattle.std.specs.Prelude.{decimal}
+use Rattle.chc_jobs.proofs.Lines.{HasFailed-longer, Puts-then}
 use Rattle.chc_jobs.proofs.top.line.put_counted.Goals as goal
 
 pub returns-in_err-put_all : goal.returns-in_err-put_all

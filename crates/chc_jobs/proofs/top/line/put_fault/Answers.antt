@@ -1,8 +1,7 @@
 use Rattle.std.proofs.lemmas.Result.{err_from_is_err_and}
-use Rattle.std.specs.Prelude.{codes, decimal, ◌∷◌, []}
+use Rattle.std.specs.Prelude.{codes}
 use Rattle.chc_sexpr.specs.Faults.{fault_name}
 use Rattle.chc_jobs.proofs.Lines.{HasPut-then, HasFailed-longer, HasPut-fails, Puts-then}
-use Rattle.chc_jobs.specs.Lines.{counted}
 use Rattle.chc_jobs.proofs.top.line.put_fault.Goals as goal
 
 pub returns-in_err-put_counted : goal.returns-in_err-put_counted

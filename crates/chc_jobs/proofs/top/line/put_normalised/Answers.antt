@@ -1,5 +1,5 @@
 use Rattle.std.proofs.lemmas.Result.{err_from_is_err_and}
-use Rattle.std.specs.Prelude.{codes, decimal, ◌∷◌, []}
+use Rattle.std.specs.Prelude.{codes}
 use Rattle.chc_jobs.proofs.Lines.{HasPut-then, HasFailed-longer, HasPut-fails, Puts-then}
 use Rattle.chc_jobs.specs.Lines.{counted}
 use Rattle.chc_jobs.proofs.top.line.put_normalised.Goals as goal

@@ -1,5 +1,3 @@
-use Rattle.chc_jobs.proofs.Lines.{HasPut-then, HasFailed-longer, HasPut-fails, Puts-then}
-use Rattle.chc_jobs.specs.Lines.{counted}
 use Rattle.chc_jobs.proofs.top.line.put_words.Goals as goal
 
 pub returns-in-ReadFault : goal.returns-in-ReadFault
