@@ -1,6 +1,6 @@
 //! The text of a script.
 
-ghost use Rattle.std.specs.Prelude.{◌≡◌, ◌≢◌, ◌+◌, ◌++◌, ◌↔◌, [], codes, map, length, IsTrue, IfOk, OnOk};
+ghost use Rattle.std.specs.Prelude.{◌≡◌, ◌≢◌, ◌+◌, ◌≤◌, ◌++◌, ◌↔◌, [], codes, map, length, IsTrue, IfOk, OnOk};
 ghost use Rattle.std.specs.List.{concat};
 ghost use Rattle.chc_print.specs.Texts.{spaced};
 ghost use Rattle.chc_print.specs.Script.{atom_text, head_text, part_texts, tail_text, matrix_text, closed, clause_text, declaration_text, live_text, declarations_text, lines_of_script, IsScriptText};
@@ -17,6 +17,7 @@ use std::alloc::Global;
 
 /// Writes an atom that stands under so many variables.
 fn write_atom(out: &mut ByteText, names: &Naming, atom: &Atom, under: u64) -> Result<(), NoMemory>
+    requires { under ≤ length out.old }
     ensures { OnOk result (out.new ≡ out.old ++ atom_text names.now under atom.now) }
 {
     write_opening(out, atom.args.as_slice())?;
@@ -32,6 +33,7 @@ fn write_atoms(
     atoms: &[Atom],
     under: u64,
 ) -> Result<(), NoMemory>
+    requires { under ≤ length out.old }
     ensures { OnOk result (out.new ≡ out.old ++ spaced (map (atom_text names.now under) atoms.now)) }
 {
     for atom in atoms {
@@ -48,6 +50,7 @@ fn write_head(
     head: &Option<Atom>,
     under: u64,
 ) -> Result<(), NoMemory>
+    requires { under ≤ length out.old }
     ensures { OnOk result (out.new ≡ out.old ++ head_text names.now under head.now) }
 {
     match head {
@@ -58,6 +61,7 @@ fn write_head(
 
 /// Writes the body atoms and the conjuncts of a clause, with a space before each.
 fn write_parts(out: &mut ByteText, names: &Naming, clause: &Clause) -> Result<(), NoMemory>
+    requires { length clause.now.vars ≤ length out.old }
     ensures { OnOk result (out.new ≡ out.old ++ spaced (part_texts names.now clause.now)) }
 {
     let under = clause.vars.len() as u64;
@@ -82,7 +86,8 @@ fn has_one_part(clause: &Clause) -> bool
 
 /// Writes what the head of a clause follows from, with a space before it.
 fn write_tail(out: &mut ByteText, names: &Naming, clause: &Clause) -> Result<(), NoMemory>
-    requires { length clause.now.body + length clause.now.conj ≢ 0 }
+    requires some { length clause.now.body + length clause.now.conj ≢ 0 }
+    requires room { length clause.now.vars ≤ length out.old }
     ensures { OnOk result (out.new ≡ out.old ++ codes " " ++ tail_text (part_texts names.now clause.now)) }
 {
     if has_one_part(clause) {
@@ -97,6 +102,7 @@ fn write_tail(out: &mut ByteText, names: &Naming, clause: &Clause) -> Result<(),
 
 /// Writes the matrix of a clause.
 fn write_matrix(out: &mut ByteText, names: &Naming, clause: &Clause) -> Result<(), NoMemory>
+    requires { length clause.now.vars ≤ length out.old }
     ensures { OnOk result (out.new ≡ out.old ++ matrix_text names.now clause.now) }
 {
     let under = clause.vars.len() as u64;

@@ -1,6 +1,6 @@
 //! The texts of numbers, sorts, terms and atoms.
 
-ghost use Rattle.std.specs.Prelude.{◌≡◌, ◌+◌, ◌++◌, codes, decimal, map, IfOk, OnOk};
+ghost use Rattle.std.specs.Prelude.{◌≡◌, ◌+◌, ◌≤◌, ◌++◌, codes, decimal, map, length, OnOk};
 ghost use Rattle.chc_print.specs.Symbols.{symbol_text};
 ghost use Rattle.chc_print.specs.Texts.{ctor_name, number_text, truth_text, sort_text, op_text, kind_text, variable_text, spaced, joined, binder_text, binder_texts, quantifier_text, opening, closing, term_text, term_texts};
 
@@ -153,14 +153,14 @@ fn write_binder(out: &mut ByteText, names: &Naming, i: u64, sort: &Sort) -> Resu
     Ok(())
 }
 
-/// The number `count` after `i`. A text with variables past 2^64 would have filled all memory.
-fn number_after(i: u64, count: u64) -> Result<u64, NoMemory>
-    ensures { IfOk result (λ n. n ≡ i + count) }
+/// The number `count` after `i`. The text has as many bytes at least, since a binder of each variable
+/// stands in it, so the sum fits.
+fn number_after(out: &ByteText, i: u64, count: u64) -> u64
+    requires { i + count ≤ length out.now }
+    ensures { result ≡ i + count }
 {
-    match i.checked_add(count) {
-        Some(n) => Ok(n),
-        None => Err(NoMemory),
-    }
+    let _bytes = out.len();
+    i + count
 }
 
 /// Writes the binders of variables from the number `from` on, with a space before each.
@@ -170,13 +170,14 @@ fn write_more_binders(
     from: u64,
     sorts: &[Sort],
 ) -> Result<(), NoMemory>
+    requires { from ≤ length out.old }
     ensures { OnOk result (out.new ≡ out.old ++ spaced (binder_texts names.now from sorts.now)) }
 {
     let mut i = from;
     for sort in sorts {
         out.push(b' ')?;
         write_binder(out, names, i, sort)?;
-        i = number_after(i, 1)?;
+        i = number_after(out, i, 1);
     }
     Ok(())
 }
@@ -188,13 +189,15 @@ fn write_binders(
     from: u64,
     sorts: &[Sort],
 ) -> Result<(), NoMemory>
+    requires { from ≤ length out.old }
     ensures { OnOk result (out.new ≡ out.old ++ joined (binder_texts names.now from sorts.now)) }
 {
     match sorts {
         [] => Ok(()),
         [first, rest @ ..] => {
             write_binder(out, names, from, first)?;
-            write_more_binders(out, names, number_after(from, 1)?, rest)?;
+            let next = number_after(out, from, 1);
+            write_more_binders(out, names, next, rest)?;
             Ok(())
         }
     }
@@ -210,7 +213,8 @@ fn write_kind(out: &mut ByteText, kind: Kind) -> Result<(), NoMemory>
     }
 }
 
-/// Writes the beginning of a quantifier that binds variables from the number `from` on.
+/// Writes the beginning of a quantifier that binds variables from the number `from` on. The text has as
+/// many bytes then as the number of the last variable says.
 pub fn write_quantifier(
     out: &mut ByteText,
     names: &Naming,
@@ -218,6 +222,23 @@ pub fn write_quantifier(
     from: u64,
     sorts: &[Sort],
 ) -> Result<(), NoMemory>
+    requires { from ≤ length out.old }
+    ensures text { OnOk result (out.new ≡ out.old ++ quantifier_text names.now kind from sorts.now) }
+    ensures room { OnOk result (from + length sorts.now ≤ length out.new) }
+{
+    write_quantifier_text(out, names, kind, from, sorts)?;
+    Ok(())
+}
+
+/// Writes the parts of the beginning of a quantifier.
+fn write_quantifier_text(
+    out: &mut ByteText,
+    names: &Naming,
+    kind: Kind,
+    from: u64,
+    sorts: &[Sort],
+) -> Result<(), NoMemory>
+    requires { from ≤ length out.old }
     ensures { OnOk result (out.new ≡ out.old ++ quantifier_text names.now kind from sorts.now) }
 {
     out.push(b'(')?;
@@ -256,6 +277,7 @@ pub fn write_term(
     term: &Term,
     under: u64,
 ) -> Result<(), NoMemory>
+    requires { under ≤ length out.old }
     ensures { OnOk result (out.new ≡ out.old ++ term_text names.now term.now under) }
 {
     match term {
@@ -274,12 +296,8 @@ pub fn write_term(
         }
         Term::Quant(kind, sorts, body) => {
             write_quantifier(out, names, *kind, under, sorts.as_slice())?;
-            write_term(
-                out,
-                names,
-                body.get(),
-                number_after(under, sorts.len() as u64)?,
-            )?;
+            let inner = number_after(out, under, sorts.len() as u64);
+            write_term(out, names, body.get(), inner)?;
             out.push(b')')?;
         }
         Term::Call(k, arguments) => {
@@ -299,6 +317,7 @@ pub fn write_terms(
     terms: &[Term],
     under: u64,
 ) -> Result<(), NoMemory>
+    requires { under ≤ length out.old }
     ensures { OnOk result (out.new ≡ out.old ++ spaced (term_texts names.now under terms.now)) }
 {
     for term in terms {
@@ -316,6 +335,7 @@ pub fn write_arguments(
     arguments: &[Term],
     under: u64,
 ) -> Result<(), NoMemory>
+    requires { under ≤ length out.old }
     ensures { OnOk result (out.new ≡ out.old ++ spaced (term_texts names.now under arguments.now) ++ closing arguments.now) }
 {
     write_terms(out, names, arguments, under)?;
