@@ -4,3 +4,4 @@ pub mod Lexemes
 pub mod Pieces
 pub mod Tokens
 pub mod Trees
+pub mod Spelling
