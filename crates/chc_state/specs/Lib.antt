@@ -2,3 +2,5 @@ pub mod States
 pub mod Limits
 pub mod Meaning
 pub mod Steps
+pub mod Sorts
+pub mod Definitions

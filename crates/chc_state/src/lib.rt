@@ -2,6 +2,7 @@
 #![tactic(auto)]
 
 mod clause;
+mod defs;
 mod limits;
 mod state;
 mod step;
@@ -9,6 +10,7 @@ mod tally;
 #[cfg(test)]
 mod tests;
 
+pub use defs::{Def, Defs};
 pub use clause::{Atom, Clause, PredDecl};
 pub use state::State;
 pub use step::Step;

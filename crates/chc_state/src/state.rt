@@ -3,13 +3,14 @@
 ghost use Rattle.std.specs.Prelude.{◌≡◌, ◌<◌, ◌^◌, None, IsTrue, length};
 ghost use Rattle.chc_state.specs.States.{StateView, uses_live};
 ghost use Rattle.chc_state.specs.Limits.{first_passed};
+ghost use Rattle.chc_state.specs.Sorts.{are_sorted};
 
 use crate::clause::{Clause, PredDecl};
 use chc_sorts::{List, Sig};
 use std::marker::Model;
 
-/// A signature, predicates, and clauses over them. Every clause uses live predicates alone, and all
-/// is within the limits.
+/// A signature, predicates, and clauses over them. Every clause is well sorted, its terms have no
+/// quantifier, predicate or call in them, it uses live predicates alone, and all is within the limits.
 #[derive(Debug, Drop)]
 pub struct State {
     sig: Sig,
@@ -24,6 +25,7 @@ impl Model for State {
     ghost use Rattle.chc_terms.specs.contracts.term.Term as term;
     ghost use Rattle.chc_state.specs.States.{StateView, uses_live};
     ghost use Rattle.chc_state.specs.Limits.{first_passed};
+    ghost use Rattle.chc_state.specs.Sorts.{are_sorted};
 
     ghost Value = { StateView };
 
@@ -31,7 +33,7 @@ impl Model for State {
 
     ghost view = { λ s. record { sig = s.sig; preds = s.preds; clauses = s.clauses } };
 
-    ghost invariant = { λ s. (length s.preds < 2 ^ 32) × IsTrue (uses_live s.preds s.clauses) × (is_none (first_passed s.preds s.clauses) ≡ true) };
+    ghost invariant = { λ s. (length s.preds < 2 ^ 32) × IsTrue (uses_live s.preds s.clauses) × (is_none (first_passed s.preds s.clauses) ≡ true) × IsTrue (are_sorted s.sig s.preds s.clauses) };
 }
 
 impl State {
@@ -40,6 +42,7 @@ impl State {
         requires few { length preds < 2 ^ 32 }
         requires live { IsTrue (uses_live preds clauses) }
         requires within { first_passed preds clauses ≡ None }
+        requires sorted { IsTrue (are_sorted sig preds clauses) }
         ensures { result ≡ record { sig = sig; preds = preds; clauses = clauses } }
     {
         State {
@@ -54,6 +57,7 @@ impl State {
         ensures value { record { sig = result.0; preds = result.1; clauses = result.2 } ≡ self }
         ensures few { length result.1 < 2 ^ 32 }
         ensures live { IsTrue (uses_live result.1 result.2) }
+        ensures sorted { IsTrue (are_sorted result.0 result.1 result.2) }
     {
         let State {
             sig,
@@ -78,11 +82,12 @@ impl State {
         &self.preds
     }
 
-    /// The clauses in order. They use live predicates alone and are within the limits.
+    /// The clauses in order. They are well sorted, use live predicates alone and are within the limits.
     pub fn clauses(&self) -> &List<Clause>
         ensures value { result.now ≡ self.now.clauses }
         ensures live { IsTrue (uses_live self.now.preds self.now.clauses) }
         ensures within { first_passed self.now.preds self.now.clauses ≡ None }
+        ensures sorted { IsTrue (are_sorted self.now.sig self.now.preds self.now.clauses) }
     {
         &self.clauses
     }

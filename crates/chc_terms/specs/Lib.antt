@@ -1,2 +1,4 @@
 pub mod Counts
 pub mod Has
+pub mod Sorted
+pub mod Laws
