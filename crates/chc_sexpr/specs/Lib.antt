@@ -5,3 +5,4 @@ pub mod Pieces
 pub mod Tokens
 pub mod Trees
 pub mod Spelling
+pub mod Names

@@ -4,3 +4,4 @@ pub mod Meaning
 pub mod Steps
 pub mod Sorts
 pub mod Definitions
+pub mod Back
