@@ -4,3 +4,4 @@ pub mod Readings
 pub mod Scripts
 pub mod Shapes
 pub mod Terms
+pub mod Assertions

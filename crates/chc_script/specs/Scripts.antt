@@ -6,7 +6,7 @@ use Rattle.std.specs.Str.{bytes_eq}
 use Rattle.chc_sorts.specs.Signature.{no_datatypes}
 use Rattle.chc_sorts.specs.declared.memory.NoMemory.{NoMemory}
 use Rattle.chc_sexpr.specs.declared.tree.Tree.{Tree}
-use Rattle.chc_sexpr.specs.Trees.{Spells}
+use Rattle.chc_sexpr.specs.Spelling.{Spells}
 use Rattle.chc_state.specs.declared.clause.Clause.{Clause}
 use Rattle.chc_state.specs.Limits.{first_passed}
 use Rattle.chc_script.specs.Clauses.{DeclaredView, most_predicates, no_predicates, with_predicate, assertion}
@@ -128,7 +128,7 @@ commands d (t ∷ ts) = command d t >>= (λ e. commands e ts)
 abbrev pub closed : DraftView → Option ScriptView
 closed d =
     cond (is_checked d.stage && is_none (first_passed d.declared.preds d.clauses))
-    (Some (record { names = d.declared.names; state = record { sig = no_datatypes; preds = d.declared.preds; clauses = d.clauses } }))
+    (Some (record { names = d.declared.names; state = record { sig = no_datatypes; preds = d.declared.preds; clauses = d.clauses }; assertions = [] }))
     None
 
 -- the script that trees stand for
@@ -141,8 +141,9 @@ pub record ReadsFirst (bytes : List ℕ) (X : ScriptView) : Type 0 where
   pub spelled : Spells bytes trees
   pub stands : script_of trees ≡ Some X
 
--- what a reading of bytes answers: the script that they stand for, or None where they are no first script; it may always be refused memory
+-- what a reading of bytes answers: the script that they stand for, which is the only one, or None where they are no first
+-- script; it may always be refused memory
 abbrev pub IsFirstReading : List ℕ → Result (Option ScriptView) NoMemory → Type 0
-IsFirstReading bytes (Ok (Some X)) = ReadsFirst bytes X
+IsFirstReading bytes (Ok (Some X)) = ReadsFirst bytes X × ((Y : ScriptView) → ReadsFirst bytes Y → X ≡ Y)
 IsFirstReading bytes (Ok None) = (X : ScriptView) → ¬ (ReadsFirst bytes X)
 IsFirstReading bytes (Err refused) = ⊤
