@@ -1,7 +1,11 @@
--- The text of a trace.
-use Rattle.std.specs.Prelude.{ℕ, ◌==◌, List, [], ◌∷◌, ◌++◌, map, if◌then◌else◌, codes, decimal}
+-- The text of a trace, and the texts that say one.
+use Rattle.std.specs.Prelude.{◌≡◌, ◌<◌, ◌^◌, ℕ, pos, ◌==◌, List, [], ◌∷◌, ◌++◌, map, if◌then◌else◌, codes, decimal, Option, Some, None, Result, Ok, Err, ⊤}
 use Rattle.std.specs.List.{concat}
 use Rattle.hex.specs.Hex.{encode_lower}
+use Rattle.chc_sorts.specs.declared.memory.NoMemory.{NoMemory}
+use Rattle.chc_sexpr.specs.declared.tree.Tree.{Tree}
+use Rattle.chc_sexpr.specs.declared.tree.Tree.TheVariants as tree
+use Rattle.chc_sexpr.specs.Spelling.{Spells}
 use Rattle.chc_state.specs.declared.step.Step.{Step}
 use Rattle.chc_state.specs.declared.step.Step.TheVariants as step
 use Rattle.chc_trace.specs.declared.trace.Trace.{Trace}
@@ -33,3 +37,58 @@ abbrev pub trace_lines : Trace → List ℕ
 trace_lines t =
     codes "(chc-trace 1)\n" ++ codes "(source " ++ string_text (encode_lower t.source) ++ codes ")\n"
     ++ concat (map step_text t.steps) ++ codes "(target " ++ string_text t.target ++ codes ")\n"
+
+-- the trees are these numbers, each below 2^32
+abbrev pub AreNumbers : List Tree → List ℕ → Type 0
+AreNumbers [] [] = Unit {0}
+AreNumbers [] (n ∷ ns) = ⊥
+AreNumbers (t ∷ ts) [] = ⊥
+AreNumbers (t ∷ ts) (n ∷ ns) = (place : ℕ) × (t ≡ tree.Numeral place (pos n)) × (n < 2 ^ 32) × AreNumbers ts ns
+
+-- the tree is a group of the symbol and what follows it
+abbrev pub IsForm : List ℕ → List Tree → Tree → Type 0
+IsForm name more t = (at place : ℕ) × (t ≡ tree.Group at (tree.Symbol place name ∷ more))
+
+-- the tree is a step of the kind on these predicates
+abbrev pub IsStepOf : List ℕ → List ℕ → Tree → Type 0
+IsStepOf kind preds t =
+    (place : ℕ) × (numbers : List Tree) × IsForm (codes "step") (tree.Symbol place kind ∷ numbers) t × AreNumbers numbers preds
+
+-- the tree is the step
+abbrev pub IsStepTree : Tree → Step → Type 0
+IsStepTree t (step.Unreached preds) = IsStepOf (codes "unreached") preds t
+IsStepTree t (step.Unneeded preds) = IsStepOf (codes "unneeded") preds t
+
+-- the trees are the steps, and then a tree that is the target
+abbrev pub AreSteps : List Tree → List Step → List ℕ → Type 0
+AreSteps [] xs target = ⊥
+AreSteps (t ∷ []) [] target = (place : ℕ) × IsForm (codes "target") (tree.Text place target ∷ []) t
+AreSteps (t ∷ u ∷ ts) [] target = ⊥
+AreSteps (t ∷ ts) (x ∷ xs) target = IsStepTree t x × AreSteps ts xs target
+
+-- the tree is the mark of a trace of the first version
+abbrev pub IsMark : Tree → Type 0
+IsMark t = (place : ℕ) × IsForm (codes "chc-trace") (tree.Numeral place (pos 1) ∷ []) t
+
+-- the tree is the source of that digest
+abbrev pub IsSource : List ℕ → Tree → Type 0
+IsSource digits t = (place : ℕ) × IsForm (codes "source") (tree.Text place digits ∷ []) t
+
+-- the trees are the mark, the source, the steps and the target of the trace
+abbrev pub AreTraceOf : List Tree → Trace → Type 0
+AreTraceOf [] t = ⊥
+AreTraceOf (mark ∷ []) t = ⊥
+AreTraceOf (mark ∷ source ∷ more) t = IsMark mark × IsSource (encode_lower t.source) source × AreSteps more t.steps t.target
+
+-- the bytes say the trace
+pub record SaysTrace (bytes : List ℕ) (t : Trace) : Type 0 where
+  pub trees : List Tree
+  pub spelled : Spells bytes trees
+  pub stands : AreTraceOf trees t
+
+-- what a reading of bytes answers: the trace that they say, which is the only one, or None where they say none; it may always
+-- be refused memory
+abbrev pub IsTraceReading : List ℕ → Result (Option Trace) NoMemory → Type 0
+IsTraceReading bytes (Ok (Some t)) = SaysTrace bytes t × ((u : Trace) → SaysTrace bytes u → t ≡ u)
+IsTraceReading bytes (Ok None) = (t : Trace) → SaysTrace bytes t → ⊥
+IsTraceReading bytes (Err refused) = ⊤

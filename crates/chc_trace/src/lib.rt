@@ -2,10 +2,12 @@
 #![tactic(auto)]
 
 mod hashing;
+mod read;
 mod text;
 mod trace;
 
 pub use hashing::digest;
+pub use read::read_trace;
 pub use text::trace_text;
 pub use trace::Trace;
 
