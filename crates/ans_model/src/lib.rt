@@ -1,0 +1,8 @@
+//! Model answers: definitions of predicates, read and written.
+#![tactic(auto)]
+
+mod read;
+mod text;
+
+pub use read::read_defs;
+pub use text::defs_text;
