@@ -3,3 +3,6 @@ pub mod Induction
 pub mod HasLaws
 pub mod SortLaws
 pub mod Meanings
+pub mod SameSort
+pub mod Division
+pub mod Arrays
