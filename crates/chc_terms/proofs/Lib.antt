@@ -6,3 +6,8 @@ pub mod Meanings
 pub mod SameSort
 pub mod Division
 pub mod Arrays
+pub mod OperatorShapes
+pub mod PlainOperators
+pub mod ArrayOperators
+pub mod OperatorLaws
+pub mod SortSteps
