@@ -11,3 +11,4 @@ pub mod PlainOperators
 pub mod ArrayOperators
 pub mod OperatorLaws
 pub mod SortSteps
+pub mod Uniqueness
