@@ -12,3 +12,5 @@ pub mod ArrayOperators
 pub mod OperatorLaws
 pub mod SortSteps
 pub mod Uniqueness
+pub mod Existence
+pub mod TermLaws
