@@ -14,3 +14,5 @@ pub mod SortSteps
 pub mod Uniqueness
 pub mod Existence
 pub mod TermLaws
+pub mod Contexts
+pub mod ForOthers

@@ -1,6 +1,5 @@
 -- What a world says of division by zero: at most one number, and always one.
 use Rattle.std.proofs.Common.{◌≡◌, ◌⊎◌, ℤ, pos, List, [], ◌∷◌, All, Contains, inl, inr, refl, sym, ap, ◌∙◌, subst}
-use Rattle.std.specs.List.{AllByRecursion}
 use Rattle.std.proofs.Math.IntN.{ℤ_discrete}
 use Rattle.std.proofs.lemmas.List.Elements.{recursion_from_All}
 use Rattle.chc_values.specs.declared.world.WorldEntry.{WorldEntry}

@@ -4,7 +4,7 @@ use Rattle.std.specs.List.{AllByRecursion}
 use Rattle.chc_sorts.specs.declared.sort.Sort.{Sort, Sort-F, out-Sort}
 use Rattle.chc_sorts.specs.declared.sort.Sort.TheVariants as sort
 use Rattle.chc_sorts.specs.Signature.{Signature}
-use Rattle.chc_values.specs.declared.value.Value.{Value, Value-F, out-Value, roll-Value, roll-out-Value, map-Value, rec-Value, rec-roll-Value}
+use Rattle.chc_values.specs.declared.value.Value.{Value, Value-F, out-Value, roll-Value, roll-out-Value, map-Value, rec-roll-Value}
 use Rattle.chc_values.specs.declared.value.Value.TheVariants as value
 use Rattle.chc_values.specs.Values.{HasFields, EachOf, IsCanonical, LevelOf, IsOf, AreOf}
 
