@@ -23,13 +23,8 @@ use Rattle.chc_terms.proofs.SortLaws.{sort_of-Var, is_unquantified-App, is_unqua
 use Rattle.chc_terms.proofs.SameSort.{same_from_test, both_true}
 use Rattle.chc_terms.proofs.SortSteps.{sorts_of_more, app_sorts, pred_sorts, call_sorts}
 use Rattle.chc_terms.proofs.OperatorShapes.{OperatorsFit, OperatorsAnswer, IsStrict, when_some}
+use Rattle.chc_terms.proofs.Variables.{AreOf-some}
 use Rattle.chc_terms.proofs.Uniqueness.{IsSingle, term_single, terms_single}
-
-pub AreOf-some : (sig : Signature) (vs : List Value) (ss : List Sort) (i : ℕ) (s : Sort) → AreOf sig vs ss → slice_get ss i ≡ Some s → (v : Value) × (slice_get vs i ≡ Some v)
-AreOf-some sig vs [] i s a e = absurd (none-some s e)
-AreOf-some sig [] (t ∷ ts) i s a e = absurd a
-AreOf-some sig (v ∷ vs) (t ∷ ts) zero s a e = (v, refl)
-AreOf-some sig (v ∷ vs) (t ∷ ts) (suc i) s a e = AreOf-some sig vs ts i s a.1 e
 
 truths_all : (sorts : List Sort) → are_truths sorts ≡ true → list_all (same_sort sort.Bool) sorts ≡ true
 truths_all [] h = absurd (false≢true h)

@@ -16,3 +16,5 @@ pub mod Existence
 pub mod TermLaws
 pub mod Contexts
 pub mod ForOthers
+pub mod DatatypeOperators
+pub mod Variables

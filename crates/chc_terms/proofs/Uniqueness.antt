@@ -23,6 +23,7 @@ use Rattle.chc_terms.proofs.HasLaws.{Has-Var, Has-Num, Has-Lit, Has-App, Has-Pre
 use Rattle.chc_terms.proofs.SortLaws.{sort_of-Var, sort_of-Num, sort_of-Lit}
 use Rattle.chc_terms.proofs.SameSort.{same_from_test, both_true}
 use Rattle.chc_terms.proofs.SortSteps.{Sorts, sorts_of_more, app_sorts, pred_sorts, call_sorts, quant_sorts}
+use Rattle.chc_terms.proofs.Variables.{AreOf-append, AreOf-get}
 use Rattle.chc_terms.proofs.OperatorShapes.{OperatorsFit, when_some, bool_of, int_of}
 
 -- P holds of at most one value, and of values of the sort alone
@@ -34,18 +35,6 @@ pub record IsSingle (sig : Signature) (P : Value → Type 0) (s : Sort) : Type 0
 pub record AreSingle (sig : Signature) (P : List Value → Type 0) (sorts : List Sort) : Type 0 where
   pub one : (us vs : List Value) → P us → P vs → us ≡ vs
   pub of : (vs : List Value) → P vs → AreOf sig vs sorts
-
-pub AreOf-append : (sig : Signature) (us vs : List Value) (ss ts : List Sort) → AreOf sig us ss → AreOf sig vs ts → AreOf sig (us ++ vs) (ss ++ ts)
-AreOf-append sig [] vs [] ts a b = b
-AreOf-append sig [] vs (s ∷ ss) ts a b = absurd a
-AreOf-append sig (u ∷ us) vs [] ts a b = absurd a
-AreOf-append sig (u ∷ us) vs (s ∷ ss) ts a b = (a.0, AreOf-append sig us vs ss ts a.1 b)
-
-pub AreOf-get : (sig : Signature) (vs : List Value) (ss : List Sort) (i : ℕ) (v : Value) (s : Sort) → AreOf sig vs ss → slice_get vs i ≡ Some v → slice_get ss i ≡ Some s → IsOf sig v s
-AreOf-get sig [] ss i v s a e f = absurd (none-some v e)
-AreOf-get sig (u ∷ us) [] i v s a e f = absurd (none-some s f)
-AreOf-get sig (u ∷ us) (t ∷ ts) zero v s a e f = subst (λ x. IsOf sig x s) (same_Some u v e) (subst (IsOf sig u) (same_Some t s f) a.0)
-AreOf-get sig (u ∷ us) (t ∷ ts) (suc i) v s a e f = AreOf-get sig us ts i v s a.1 e f
 
 different : value.Bool true ≡ value.Bool false → ⊥
 different e = cc
