@@ -1,4 +1,5 @@
 pub mod Charges
+pub mod Defined
 pub mod Limiting
 pub mod Members
 pub mod Transfers

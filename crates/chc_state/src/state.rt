@@ -9,8 +9,9 @@ use crate::clause::{Clause, PredDecl};
 use chc_sorts::{List, Sig};
 use std::marker::Model;
 
-/// A signature, predicates, and clauses over them. Every clause is well sorted, its terms have no
-/// quantifier, predicate or call in them, it uses live predicates alone, and all is within the limits.
+/// A signature, predicates, and clauses over them. The sorts of the predicates' positions are of the
+/// signature, and at most 16 deep. Every clause is well sorted, its terms have no quantifier, predicate or
+/// call in them, it uses live predicates alone, and all is within the limits.
 #[derive(Debug, Drop)]
 pub struct State {
     sig: Sig,
