@@ -1,3 +1,4 @@
+pub mod Appended
 pub mod Charges
 pub mod Defined
 pub mod Limiting
