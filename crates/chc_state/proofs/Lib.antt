@@ -1,7 +1,11 @@
+pub mod Added
 pub mod Appended
 pub mod Charges
+pub mod Constants
 pub mod Defined
 pub mod Limiting
 pub mod Members
+pub mod Modelled
 pub mod Places
 pub mod Transfers
+pub mod Valued
