@@ -7,5 +7,6 @@ pub mod Limiting
 pub mod Members
 pub mod Modelled
 pub mod Places
+pub mod Retired
 pub mod Transfers
 pub mod Valued
