@@ -1,5 +1,6 @@
 pub mod Answering
 pub mod Ascending
+pub mod Bare
 pub mod Bounding
 pub mod Choosing
 pub mod Leading

@@ -1,2 +1,3 @@
-pub mod Tables
+pub mod Bare
 pub mod Choices
+pub mod Tables
