@@ -1,6 +1,5 @@
 -- The laws of Select, Store and Const.
-use Rattle.std.proofs.Common.{◌≡◌, ℤ, Bool, true, ◌&&◌, List, [], ◌∷◌, Some, refl, sym, ap, ◌∙◌, subst}
-use Rattle.std.specs.List.{AllByRecursion}
+use Rattle.std.proofs.Common.{◌≡◌, ℤ, ◌&&◌, List, [], ◌∷◌, Some, refl, sym, ap, ◌∙◌, subst}
 use Rattle.std.proofs.lemmas.Option.{none-some}
 use Rattle.chc_sorts.specs.declared.sort.Sort.{Sort}
 use Rattle.chc_sorts.specs.declared.sort.Sort.TheVariants as sort
@@ -9,9 +8,9 @@ use Rattle.chc_sorts.specs.Signature.{Signature}
 use Rattle.chc_values.specs.declared.value.Value.{Value}
 use Rattle.chc_values.specs.declared.value.Value.TheVariants as value
 use Rattle.chc_values.specs.declared.world.WorldEntry.{WorldEntry}
-use Rattle.chc_values.specs.Values.{IsOf, AreOf, IsCanonical}
+use Rattle.chc_values.specs.Values.{IsOf, AreOf}
 use Rattle.chc_values.proofs.ValueSorts.{HoldsOf, held_by_array, array_of, array_value, integer_value}
-use Rattle.chc_values.proofs.Exceptions.{Canonical, Canonical-from, IsCanonical-from, value_at}
+use Rattle.chc_values.proofs.Exceptions.{Canonical-from, IsCanonical-from, value_at}
 use Rattle.chc_terms.specs.Has.{Applies, HasAt, Stores}
 use Rattle.chc_terms.specs.Sorted.{same_sort, same_sorts, read_sort, write_sort, element_of, when}
 use Rattle.chc_terms.proofs.SameSort.{same_from_test, same_sorts_from_test, both_true}

@@ -1,8 +1,7 @@
 -- The laws of all operators, under a signature without datatypes.
-use Rattle.std.proofs.Common.{◌≡◌, ℕ, List, [], ◌∷◌, Option, Some, None, slice_get, option_and_then, ap, sym, ◌∙◌}
+use Rattle.std.proofs.Common.{◌≡◌, ℕ, List, [], Some, None, sym, ◌∙◌}
 use Rattle.std.proofs.lemmas.Option.{none-some}
 use Rattle.chc_sorts.specs.declared.sort.Sort.{Sort}
-use Rattle.chc_sorts.specs.declared.op.Op.{Op}
 use Rattle.chc_sorts.specs.declared.op.Op.TheVariants as op
 use Rattle.chc_sorts.specs.Signature.{Signature}
 use Rattle.chc_values.specs.declared.world.WorldEntry.{WorldEntry}
