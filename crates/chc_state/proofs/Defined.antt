@@ -13,7 +13,8 @@ use Rattle.chc_values.specs.Worlds.{IsWorld}
 use Rattle.chc_terms.specs.declared.fun_sort.FunSort.{FunSort}
 use Rattle.chc_terms.specs.Has.{Meaning, Has, silent}
 use Rattle.chc_terms.specs.Sorted.{Context}
-use Rattle.chc_terms.specs.Laws.{IsFunctional, IsTotal, Means, AreTotal, OneValue}
+use Rattle.chc_terms.specs.Laws.{IsFunctional, IsTotal, Means, AreTotal}
+use Rattle.chc_terms.proofs.ForOthers.{one_value}
 use Rattle.chc_state.specs.declared.clause.PredDecl.{PredDecl}
 use Rattle.chc_state.specs.declared.defs.Def.{Def}
 use Rattle.chc_state.specs.declared.defs.Defs.{Defs}
@@ -50,11 +51,11 @@ module _ (sig : Signature) (w : List WorldEntry) (defs : List Def) where
       nowhere : (params : List Sort) → None ≡ Some params → ⊥
       nowhere params e = cc
 
-  module _ (one : OneValue) (world : IsWorld sig w) (none : sig.datatypes ≡ []) (definitions : (k : ℕ) (def : Def) → slice_get defs k ≡ Some def → IsDefinition sig defs k def) where
+  module _ (world : IsWorld sig w) (none : sig.datatypes ≡ []) (definitions : (k : ℕ) (def : Def) → slice_get defs k ≡ Some def → IsDefinition sig defs k def) where
     body_functional : (n : ℕ) (def : Def) → AreFunctional n → slice_get defs n ≡ Some def → (vs : List Value) → AreOf sig vs def.params
         → IsFunctional sig (λ k us v. Has sig w silent (CallMeans sig w defs n) def.body us v) 0 def.params def.result
     body_functional n def fits at vs are =
-        one (context_before sig defs n) w silent (CallMeans sig w defs n) world none (means_before n fits) def.body def.params def.result (definitions n def at).sorted vs are
+        one_value (context_before sig defs n) w silent (CallMeans sig w defs n) world none (means_before n fits) def.body def.params def.result (definitions n def at).sorted vs are
 
     functional_next : (n : ℕ) → AreFunctional n → AreFunctional (suc n)
     functional_next n fits k def inside at = record { one = λ vs are u v a b. same vs are u v a b; of = λ vs are v a. sorted vs are v a }
@@ -105,12 +106,12 @@ module _ (s : StateView) (d : Defs) (defines : Defines d s) where
       some (Some k) f = (k, f)
 
 -- definitions mean what their sorts say, and so do the predicates that they define
-pub defined_means : OneValue → (s : StateView) (w : List WorldEntry) (d : Defs) → IsWorld s.sig w → s.sig.datatypes ≡ [] → Defines d s
+pub defined_means : (s : StateView) (w : List WorldEntry) (d : Defs) → IsWorld s.sig w → s.sig.datatypes ≡ [] → Defines d s
     → Means (defined_context s d) (PredMeans s.sig w d) (DefMeans s.sig w d)
-defined_means one s w d world none defines = record { preds_fit = λ p params e. of_pred p params e; defs_fit = λ k f e. of_call k f e }
+defined_means s w d world none defines = record { preds_fit = λ p params e. of_pred p params e; defs_fit = λ k f e. of_call k f e }
   where
     of_def : (k : ℕ) (def : Def) → slice_get d.list k ≡ Some def → IsFunctional s.sig (DefMeans s.sig w d) k def.params def.result
-    of_def k def at = functional s.sig w d.list one world none defines.definitions (length d.list) k def (slice_get_within d.list k def at) at
+    of_def k def at = functional s.sig w d.list world none defines.definitions (length d.list) k def (slice_get_within d.list k def at) at
 
     of_call : (k : ℕ) (f : FunSort) → slice_get (map fun_sort d.list) k ≡ Some f → IsFunctional s.sig (DefMeans s.sig w d) k f.params f.result
     of_call k f e =

@@ -7,7 +7,6 @@ use Rattle.chc_sorts.specs.declared.sort.Sort.{Sort}
 use Rattle.chc_values.specs.declared.value.Value.{Value}
 use Rattle.chc_values.specs.declared.world.WorldEntry.{WorldEntry}
 use Rattle.chc_values.specs.Worlds.{IsWorld}
-use Rattle.chc_terms.specs.Laws.{OneValue, SomeValue}
 use Rattle.chc_state.specs.declared.clause.Clause.{Clause}
 use Rattle.chc_state.specs.declared.defs.Defs.{Defs}
 use Rattle.chc_state.specs.declared.step.Step.{Step}
@@ -31,7 +30,7 @@ use Rattle.pass_slice.proofs.Taking.{length-after}
 sorted_parts : (s : StateView) → are_sorted s.sig s.preds s.clauses ≡ true → (positions_fit s.sig s.preds ≡ true) × (list_all (is_sorted_clause s.sig (positions s.preds)) s.clauses ≡ true)
 sorted_parts s h = and_parts (positions_fit s.sig s.preds) (list_all (is_sorted_clause s.sig (positions s.preds)) s.clauses) h
 
-module _ (one : OneValue) (some : SomeValue) (s : StateView) (ps : List ℕ) (d : Defs) (none : s.sig.datatypes ≡ []) (sorted : are_sorted s.sig s.preds s.clauses ≡ true) where
+module _ (s : StateView) (ps : List ℕ) (d : Defs) (none : s.sig.datatypes ≡ []) (sorted : are_sorted s.sig s.preds s.clauses ≡ true) where
   -- what is said of each predicate, where the definitions define those that are live after the step
   said : (x : Step) (b : Bool) → Defines d (after s x) → list_all (is_live s.preds) ps ≡ true
       → (w : List WorldEntry) (q : ℕ) (us : List Value) → SaysBack s.sig w (set_of ps) b d (with_constants (positions s.preds) b ps d) q us
@@ -82,7 +81,7 @@ module _ (one : OneValue) (some : SomeValue) (s : StateView) (ps : List ℕ) (d 
           let says = said (step.Unreached ps) false defines legal.live w in
           record {
             holds = AllTrue-same s.sig w (Says s.sig w e) (avoiding s.sig w s.clauses (set_of ps) (Says s.sig w d)) (into_avoiding w e says) (out_avoiding w e says) s.clauses
-            (modelled s.sig w one some world none (positions s.preds) (positions (after s (step.Unreached ps)).preds) s.clauses (after s (step.Unreached ps)).clauses
+            (modelled s.sig w world none (positions s.preds) (positions (after s (step.Unreached ps)).preds) s.clauses (after s (step.Unreached ps)).clauses
             (avoiding s.sig w s.clauses (set_of ps)) (unreached s.sig w s.clauses (set_of ps) legal.meets) (sorted_parts s sorted).1 (sorted_after (step.Unreached ps))
             (Says s.sig w d) holds.holds);
           }
@@ -101,14 +100,14 @@ module _ (one : OneValue) (some : SomeValue) (s : StateView) (ps : List ℕ) (d 
           let says = said (step.Unneeded ps) true defines legal.live w in
           record {
             holds = AllTrue-same s.sig w (Says s.sig w e) (granting s.sig w s.clauses (set_of ps) (Says s.sig w d)) (into_granting w e says) (out_granting w e says) s.clauses
-            (modelled s.sig w one some world none (positions s.preds) (positions (after s (step.Unneeded ps)).preds) s.clauses (after s (step.Unneeded ps)).clauses
+            (modelled s.sig w world none (positions s.preds) (positions (after s (step.Unneeded ps)).preds) s.clauses (after s (step.Unneeded ps)).clauses
             (granting s.sig w s.clauses (set_of ps)) (unneeded s.sig w s.clauses (set_of ps) legal.meets) (sorted_parts s sorted).1 (sorted_after (step.Unneeded ps))
             (Says s.sig w d) holds.holds);
           }
 
 -- the way back leads from definitions after the step to definitions before it
-pub leads_back : OneValue → SomeValue → (sorts : List (List Sort)) (x : Step) (d : Defs) → StepLeadsBack sorts x d (back sorts x d)
-leads_back one some sorts (step.Unreached ps) d s none sorted same legal defines =
-    subst (λ (xs : List (List Sort)). LeadsBack s d (with_constants xs false ps d) (after s (step.Unreached ps))) (sym same) (leads_unreached one some s ps d none sorted legal defines)
-leads_back one some sorts (step.Unneeded ps) d s none sorted same legal defines =
-    subst (λ (xs : List (List Sort)). LeadsBack s d (with_constants xs true ps d) (after s (step.Unneeded ps))) (sym same) (leads_unneeded one some s ps d none sorted legal defines)
+pub leads_back : (sorts : List (List Sort)) (x : Step) (d : Defs) → StepLeadsBack sorts x d (back sorts x d)
+leads_back sorts (step.Unreached ps) d s none sorted same legal defines =
+    subst (λ (xs : List (List Sort)). LeadsBack s d (with_constants xs false ps d) (after s (step.Unreached ps))) (sym same) (leads_unreached s ps d none sorted legal defines)
+leads_back sorts (step.Unneeded ps) d s none sorted same legal defines =
+    subst (λ (xs : List (List Sort)). LeadsBack s d (with_constants xs true ps d) (after s (step.Unneeded ps))) (sym same) (leads_unneeded s ps d none sorted legal defines)
