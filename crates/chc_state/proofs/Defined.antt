@@ -1,6 +1,6 @@
 -- What definitions that define a state's predicates mean: values as their sorts say.
-use Rattle.std.proofs.Common.{◌≡◌, ℕ, zero, suc, ◌+◌, ◌<◌, ◌≤◌, Bool, true, false, List, [], ◌∷◌, length, map, take, Option, Some, None, inl, inr, refl, sym, ap, ◌∙◌, subst, arith, ◌⊎◌}
-use Rattle.std.specs.Prelude.{slice_get, IsTrue}
+use Rattle.std.proofs.Common.{◌≡◌, ℕ, zero, suc, ◌<◌, true, List, [], length, map, take, Option, Some, None, inl, inr, sym, ap, ◌∙◌, subst, arith}
+use Rattle.std.specs.Prelude.{slice_get}
 use Rattle.std.proofs.lemmas.Bool.{false≢true}
 use Rattle.std.proofs.lemmas.Option.{slice_get_within}
 use Rattle.chc_sorts.specs.declared.sort.Sort.{Sort}
@@ -11,16 +11,15 @@ use Rattle.chc_values.specs.declared.world.WorldEntry.{WorldEntry}
 use Rattle.chc_values.specs.Values.{AreOf, IsOf}
 use Rattle.chc_values.specs.Worlds.{IsWorld}
 use Rattle.chc_terms.specs.declared.fun_sort.FunSort.{FunSort}
-use Rattle.chc_terms.specs.Has.{Meaning, Has, silent}
+use Rattle.chc_terms.specs.Has.{Has, silent}
 use Rattle.chc_terms.specs.Sorted.{Context}
-use Rattle.chc_terms.specs.Laws.{IsFunctional, IsTotal, Means, AreTotal}
-use Rattle.chc_terms.proofs.ForOthers.{one_value}
+use Rattle.chc_terms.specs.Laws.{IsFunctional, IsTotal, Means, AreTotal, OneValue}
 use Rattle.chc_state.specs.declared.clause.PredDecl.{PredDecl}
 use Rattle.chc_state.specs.declared.defs.Def.{Def}
 use Rattle.chc_state.specs.declared.defs.Defs.{Defs}
 use Rattle.chc_state.specs.States.{StateView}
 use Rattle.chc_state.specs.Sorts.{positions}
-use Rattle.chc_state.specs.Definitions.{CallMeans, DefMeans, PredMeans, Decided, Defines, IsDefinition, IsPredicateOf, DefinedAs, fun_sort, context_before}
+use Rattle.chc_state.specs.Definitions.{CallMeans, DefMeans, PredMeans, Decided, Defines, IsDefinition, IsPredicateOf, fun_sort, context_before}
 use Rattle.chc_state.proofs.Places.{same_element, one_element, mapped-at, taken-at, beside-at}
 
 -- what terms are over that use the state's predicates and the definitions
@@ -51,11 +50,11 @@ module _ (sig : Signature) (w : List WorldEntry) (defs : List Def) where
       nowhere : (params : List Sort) → None ≡ Some params → ⊥
       nowhere params e = cc
 
-  module _ (world : IsWorld sig w) (none : sig.datatypes ≡ []) (definitions : (k : ℕ) (def : Def) → slice_get defs k ≡ Some def → IsDefinition sig defs k def) where
+  module _ (one : OneValue) (world : IsWorld sig w) (none : sig.datatypes ≡ []) (definitions : (k : ℕ) (def : Def) → slice_get defs k ≡ Some def → IsDefinition sig defs k def) where
     body_functional : (n : ℕ) (def : Def) → AreFunctional n → slice_get defs n ≡ Some def → (vs : List Value) → AreOf sig vs def.params
         → IsFunctional sig (λ k us v. Has sig w silent (CallMeans sig w defs n) def.body us v) 0 def.params def.result
     body_functional n def fits at vs are =
-        one_value (context_before sig defs n) w silent (CallMeans sig w defs n) world none (means_before n fits) def.body def.params def.result (definitions n def at).sorted vs are
+        one (context_before sig defs n) w silent (CallMeans sig w defs n) world none (means_before n fits) def.body def.params def.result (definitions n def at).sorted vs are
 
     functional_next : (n : ℕ) → AreFunctional n → AreFunctional (suc n)
     functional_next n fits k def inside at = record { one = λ vs are u v a b. same vs are u v a b; of = λ vs are v a. sorted vs are v a }
@@ -105,13 +104,14 @@ module _ (s : StateView) (d : Defs) (defines : Defines d s) where
       some None f = absurd (false≢true (sym (defines.each p decl None e f) ∙ live))
       some (Some k) f = (k, f)
 
--- definitions mean what their sorts say, and so do the predicates that they define
-pub defined_means : (s : StateView) (w : List WorldEntry) (d : Defs) → IsWorld s.sig w → s.sig.datatypes ≡ [] → Defines d s
+-- definitions mean what their sorts say, and so do the predicates that they define, by the law that a term
+-- has at most one value
+pub defined_means : OneValue → (s : StateView) (w : List WorldEntry) (d : Defs) → IsWorld s.sig w → s.sig.datatypes ≡ [] → Defines d s
     → Means (defined_context s d) (PredMeans s.sig w d) (DefMeans s.sig w d)
-defined_means s w d world none defines = record { preds_fit = λ p params e. of_pred p params e; defs_fit = λ k f e. of_call k f e }
+defined_means one s w d world none defines = record { preds_fit = λ p params e. of_pred p params e; defs_fit = λ k f e. of_call k f e }
   where
     of_def : (k : ℕ) (def : Def) → slice_get d.list k ≡ Some def → IsFunctional s.sig (DefMeans s.sig w d) k def.params def.result
-    of_def k def at = functional s.sig w d.list world none defines.definitions (length d.list) k def (slice_get_within d.list k def at) at
+    of_def k def at = functional s.sig w d.list one world none defines.definitions (length d.list) k def (slice_get_within d.list k def at) at
 
     of_call : (k : ℕ) (f : FunSort) → slice_get (map fun_sort d.list) k ≡ Some f → IsFunctional s.sig (DefMeans s.sig w d) k f.params f.result
     of_call k f e =

@@ -3,7 +3,6 @@ use Rattle.std.proofs.Common.{◌≡◌, true, List, [], Option, Some, None, ref
 use Rattle.std.specs.List.{list_all}
 use Rattle.chc_sorts.specs.declared.sort.Sort.{Sort}
 use Rattle.chc_sorts.specs.Signature.{Signature}
-use Rattle.chc_values.specs.declared.value.Value.{Value}
 use Rattle.chc_values.specs.declared.world.WorldEntry.{WorldEntry}
 use Rattle.chc_values.specs.Worlds.{IsWorld}
 use Rattle.chc_state.specs.declared.clause.Atom.{Atom}
