@@ -1,8 +1,6 @@
 pub mod Decimals
 pub mod Folds
-pub mod Growth
-pub mod Nesting
-pub mod Once
-pub mod Plainness
-pub mod Refusals
 pub mod Runs
+pub mod Scans
+pub mod Spelled
+pub mod Strings
