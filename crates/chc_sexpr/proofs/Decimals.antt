@@ -75,7 +75,7 @@ digits_are [] all = refl
 digits_are (d ∷ ds) all = and_from (is_ascii_digit d) (list_all is_ascii_digit ds) (digit_is d all.0) (digits_are ds all.1)
 
 -- digits without a needless 0 in front are a whole number
-whole_from : (ds : List ℕ) → 0 < length ds → (get_or ds 0 0 ≡ 48 → length ds ≡ 1) → AllDigits 10 ds → is_whole_number ds ≡ true
+pub whole_from : (ds : List ℕ) → 0 < length ds → (get_or ds 0 0 ≡ 48 → length ds ≡ 1) → AllDigits 10 ds → is_whole_number ds ≡ true
 whole_from [] some lead all = absurd (omega arith)
 whole_from (d ∷ []) some lead all = digit_is d all.0
 whole_from (d ∷ e ∷ ds) some lead all =

@@ -3,4 +3,5 @@ pub mod Folds
 pub mod Runs
 pub mod Scans
 pub mod Spelled
+pub mod Stands
 pub mod Strings
