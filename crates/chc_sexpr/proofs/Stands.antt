@@ -8,6 +8,7 @@ use Rattle.std.proofs.lemmas.Bool.{and_parts, and_from, and_cases, not-true, not
 use Rattle.std.proofs.lemmas.List.{take_at, drop_at, take-append-drop, length-take-le}
 use Rattle.std.proofs.lemmas.List.Folds.{length-prefix_len}
 use Rattle.std.proofs.lemmas.List.Sums.{prefix_len-le-length}
+use Rattle.chc_sexpr.specs.Trees.{depth, depth_step}
 use Rattle.chc_sexpr.specs.Tokens.{is_symbol_byte, is_simple_symbol, is_reserved, is_whole_number}
 use Rattle.chc_sexpr.specs.Spelling.{stops, is_quotable, is_keyword, is_run, IsDecimal, IsHexadecimal, IsBinary, is_binary_digit, continues_binary, in_string, string_of, EachSpelled, LevelSpelled, TreeSpelled}
 use Rattle.chc_sexpr.specs.Scanning.{fault_at, front, ended, word_at, symbol_at, keyword_of, keyword_at, quoted_of, quoted_from, quoted_at, with_byte, string_from, string_of_found, string_at, based_of, based_at, sharp_at, fraction_of, fraction, numeral_of, number_of, has_needless_zero, number_from, number_at, token_by, token_at}
@@ -17,6 +18,7 @@ use Rattle.chc_sexpr.specs.declared.tree.Tree.{Tree}
 use Rattle.chc_sexpr.specs.declared.tree.Tree.TheOpen.{Tree-F}
 use Rattle.chc_sexpr.specs.declared.tree.Tree.TheVariants.{Symbol, Word, Keyword, Numeral, Text, Other, Group}
 use Rattle.chc_sexpr.proofs.Decimals.{whole_from, decimal_whole}
+use Rattle.chc_sexpr.proofs.Folds.{fold-Symbol, fold-Word, fold-Keyword, fold-Numeral, fold-Text, fold-Other}
 use Rattle.chc_sexpr.proofs.Runs.{run_all, run_stops, digits_all}
 use Rattle.chc_sexpr.proofs.Spelled.{spelled-Symbol, spelled-Word, spelled-Keyword, spelled-Numeral, spelled-Text, spelled-Other, shut}
 use Rattle.chc_sexpr.proofs.Strings.{string_goes_on}
@@ -26,6 +28,7 @@ pub record Stands (place : ℕ) (bs : List ℕ) (t : Token) : Type 0 where
   pub some : 0 < t.length
   pub within : t.length ≤ length bs
   pub spelled : TreeSpelled t.tree place (take t.length bs) (drop t.length bs)
+  pub flat : depth t.tree ≡ 0
 
 -- a read token stands
 abbrev StandsIf : ℕ → List ℕ → Result Token TextFault → Type 0
@@ -55,6 +58,10 @@ word_spelled : (r : Bool) (place : ℕ) (name after : List ℕ) → is_reserved 
 word_spelled true place name after r s end = shut (spelled-Word place name) place name after (refl, refl, r, end)
 word_spelled false place name after r s end = shut (spelled-Symbol place name) place name after (refl, inl (refl, s, not_from_false (is_reserved name) r, end))
 
+word_flat : (r : Bool) (place : ℕ) (name : List ℕ) → depth (cond r (Word place name) (Symbol place name)) ≡ 0
+word_flat true place name = fold-Word ℕ depth_step place name
+word_flat false place name = fold-Symbol ℕ depth_step place name
+
 symbol_stands : (place b : ℕ) (bs : List ℕ) → is_ascii_digit b ≡ false → is_symbol_byte b ≡ true → StandsIf place (b ∷ bs) (symbol_at place (b ∷ bs))
 symbol_stands place b bs d s =
     let text = b ∷ bs in
@@ -63,6 +70,7 @@ symbol_stands place b bs d s =
       some = omega (arith, run_begins is_symbol_byte b bs s);
       within = prefix_len-le-length is_symbol_byte text;
       spelled = word_spelled (is_reserved (take n text)) place (take n text) (drop n text) refl (simple_front b bs d s) (run_stops is_symbol_byte text);
+      flat = word_flat (is_reserved (take n text)) place (take n text);
     }
 
 -- keywords
@@ -89,6 +97,7 @@ keyword_stands place bs =
       within = omega (arith, fits);
       spelled = shut (spelled-Keyword place (take (1 + n) text)) place (take (1 + n) text) (drop (1 + n) text)
           (refl, refl, keyword_front n bs (run_all is_symbol_byte bs) (omega (arith, some, length-prefix_len is_symbol_byte bs)), end);
+      flat = fold-Keyword ℕ depth_step place (take (1 + n) text);
     })
 
 -- quoted symbols
@@ -104,6 +113,7 @@ quoted_rest place n name (c ∷ cs) bs size is all = by_test place (124 ∷ bs) 
       some = omega arith;
       within = omega (arith, total, long);
       spelled = shut (spelled-Symbol place name) place (take (n + 2) (124 ∷ bs)) (drop (n + 2) (124 ∷ bs)) (refl, inr (front, all));
+      flat = fold-Symbol ℕ depth_step place name;
     }) (λ e. tt)
 
 quoted_stands : (place : ℕ) (bs : List ℕ) → StandsIf place (124 ∷ bs) (quoted_at place (124 ∷ bs))
@@ -173,6 +183,7 @@ string_found place bs (Some found) h =
       some = omega arith;
       within = omega (arith, total, long);
       spelled = shut (spelled-Text place found.0) place (take (1 + found.1) (34 ∷ bs)) (drop (1 + found.1) (34 ∷ bs)) (refl, front, ap (stops (λ b. eqb b 34)) behind ∙ h.end);
+      flat = fold-Text ℕ depth_step place found.0;
     }
 
 string_stands : (place : ℕ) (bs : List ℕ) → StandsIf place (34 ∷ bs) (string_at place (34 ∷ bs))
@@ -198,6 +209,7 @@ based_stands digit tail place a b bs made =
       some = omega arith;
       within = omega (arith, prefix_len-le-length digit bs);
       spelled = subst (λ t. TreeSpelled (Other place t) place t (drop (2 + n) text)) (sym front) (made (take n bs) (drop (2 + n) text) run end);
+      flat = fold-Other ℕ depth_step place (take (2 + n) text);
     }))
   where
     front_token : ℕ → List ℕ → Token
@@ -274,6 +286,7 @@ numeral_stands place n bs some within whole =
       some = some;
       within = within;
       spelled = shut (spelled-Numeral place (pos v)) place ds (drop n bs) (refl, v, refl, small, sym (decimal_whole ds whole small), end);
+      flat = fold-Numeral ℕ depth_step place (pos v);
     })) (λ e. tt)
 
 decimal_stands : (place n m : ℕ) (bs : List ℕ) → 0 < n → n ≤ length bs → is_whole_number (take n bs) ≡ true → IsFraction (drop n bs) m → StandsIf place bs (ended is_symbol_byte place bs (front (Other place) (n + m) bs))
@@ -290,6 +303,7 @@ decimal_stands place n m bs some within whole f =
       within = omega (arith, within, f.within, length-drop n bs);
       spelled = subst (λ t. TreeSpelled (Other place t) place t (drop (n + m) bs)) (sym front_is)
           (other_spelled place token (drop (n + m) bs) (inl (inl (ds, f.digits, refl, whole, f.run), end)));
+      flat = fold-Other ℕ depth_step place (take (n + m) bs);
     })
 
 number_of_stands : (place n m : ℕ) (bs : List ℕ) → 0 < n → n ≤ length bs → is_whole_number (take n bs) ≡ true → fraction (drop n bs) ≡ m → StandsIf place bs (number_of m n place bs)

@@ -1,9 +1,12 @@
 -- What a reader of trees has read so far, and what the rest of the text can make of it.
-use Rattle.std.specs.Prelude.{ℕ, ◌≡◌, ◌<◌, ◌≤◌, ◌+◌, Bool, true, false, List, [], ◌∷◌, ◌++◌, length, drop, reverse, Result, Ok, Err, ⊤}
+use Rattle.std.specs.Prelude.{ℕ, ◌≡◌, ◌≢◌, ◌<◌, ◌≤◌, ◌+◌, Bool, true, false, List, [], ◌∷◌, ◌++◌, length, drop, reverse, Result, Ok, Err, ⊤}
+use Rattle.chc_sexpr.specs.Tokens.{is_white}
 use Rattle.chc_sexpr.specs.Spelling.{EachSpelled, TreeSpelled}
+use Rattle.chc_sexpr.specs.Scanning.{fault_at}
 use Rattle.chc_sexpr.specs.Trees.{depth_all, most_open}
 use Rattle.chc_sexpr.specs.declared.draft.OpenGroup.{OpenGroup}
 use Rattle.chc_sexpr.specs.declared.draft.Draft.{Draft}
+use Rattle.chc_sexpr.specs.declared.fault.Fault.TheVariants.{OpenParen}
 use Rattle.chc_sexpr.specs.declared.fault.TextErr.{TextErr}
 use Rattle.chc_sexpr.specs.declared.fault.TextErr.TheVariants as text_err
 use Rattle.chc_sexpr.specs.declared.tree.Tree.{Tree}
@@ -52,3 +55,16 @@ abbrev pub StepsOn : Draft → Draft → ℕ → List ℕ → Result ℕ TextErr
 StepsOn old new place rest (Ok n) = StepsTo old new place rest n
 StepsOn old new place rest (Err (text_err.At fault)) = Fails old place rest
 StepsOn old new place rest (Err text_err.NoMemory) = ⊤
+
+-- a byte that is neither white space nor a parenthesis, and begins no comment
+pub record BeginsToken (b : ℕ) : Type 0 where
+  pub white : is_white b ≡ false
+  pub comment : b ≢ 59
+  pub opening : b ≢ 40
+  pub closing : b ≢ 41
+
+-- what a draft comes to where the text ends: its trees, or the innermost group that is open
+abbrev pub Finishes : Draft → Result (List Tree) TextErr → Type 0
+Finishes d (Ok trees) = (d.groups ≡ []) × (trees ≡ d.trees)
+Finishes d (Err (text_err.At fault)) = (group : OpenGroup) × (outer : List OpenGroup) × (d.groups ≡ outer ++ group ∷ []) × (fault ≡ fault_at group.place OpenParen)
+Finishes d (Err text_err.NoMemory) = ⊤
