@@ -3,7 +3,8 @@
 ghost use Rattle.std.specs.Prelude.{◌≡◌, ◌++◌, [], ◌∷◌, codes, decimal, map, OnOk, IfOk};
 ghost use Rattle.std.specs.List.{concat};
 ghost use Rattle.hex.specs.Hex.{encode_lower};
-ghost use Rattle.chc_trace.specs.Traces.{numbers_text, step_line, step_text, in_string, string_text, trace_lines};
+ghost use Rattle.chc_sexpr.specs.Spelling.{in_string, string_of};
+ghost use Rattle.chc_trace.specs.Traces.{numbers_text, step_line, step_text, trace_lines};
 
 use crate::trace::Trace;
 use chc_sorts::{List, NoMemory};
@@ -92,7 +93,7 @@ fn write_bytes(out: &mut ByteText, bytes: &[u8]) -> Result<(), NoMemory>
 
 /// Writes the string of the bytes.
 fn write_string(out: &mut ByteText, bytes: &[u8]) -> Result<(), NoMemory>
-    ensures { OnOk result (out.new ≡ out.old ++ string_text bytes.now) }
+    ensures { OnOk result (out.new ≡ out.old ++ string_of bytes.now) }
 {
     out.push(b'"')?;
     write_bytes(out, bytes)?;
@@ -101,7 +102,7 @@ fn write_string(out: &mut ByteText, bytes: &[u8]) -> Result<(), NoMemory>
 }
 
 /// The digits of a digest in hexadecimal, lower case.
-fn hex_digits(digest: &[u8; 32]) -> [u8; 64]
+pub fn hex_digits(digest: &[u8; 32]) -> [u8; 64]
     ensures { result ≡ encode_lower digest.now }
 {
     let mut digits = [0u8; 64];
@@ -113,7 +114,7 @@ fn hex_digits(digest: &[u8; 32]) -> [u8; 64]
 
 /// Writes the line of the source's digest.
 fn write_source(out: &mut ByteText, source: &[u8; 32]) -> Result<(), NoMemory>
-    ensures { OnOk result (out.new ≡ out.old ++ codes "(source " ++ string_text (encode_lower source.now) ++ codes ")\n") }
+    ensures { OnOk result (out.new ≡ out.old ++ codes "(source " ++ string_of (encode_lower source.now) ++ codes ")\n") }
 {
     let digits = hex_digits(source);
     out.extend(b"(source ")?;
