@@ -30,6 +30,21 @@ trace_lines t =
     codes "(chc-trace 1)\n" ++ codes "(source " ++ string_of (encode_lower t.source) ++ codes ")\n"
     ++ concat (map step_text t.steps) ++ codes "(target " ++ string_of t.target ++ codes ")\n"
 
+-- numbers below 2^32
+abbrev pub AreSmall : List ℕ → Type 0
+AreSmall [] = Unit {0}
+AreSmall (n ∷ ns) = (n < 2 ^ 32) × AreSmall ns
+
+-- a step on predicates of such numbers
+abbrev pub HasSmallNumbers : Step → Type 0
+HasSmallNumbers (step.Unreached preds) = AreSmall preds
+HasSmallNumbers (step.Unneeded preds) = AreSmall preds
+
+-- steps on such predicates
+abbrev pub AreSmallSteps : List Step → Type 0
+AreSmallSteps [] = Unit {0}
+AreSmallSteps (x ∷ xs) = HasSmallNumbers x × AreSmallSteps xs
+
 -- the trees are these numbers, each below 2^32
 abbrev pub AreNumbers : List Tree → List ℕ → Type 0
 AreNumbers [] [] = Unit {0}
