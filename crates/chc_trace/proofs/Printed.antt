@@ -1,7 +1,8 @@
 -- The lines of a trace say it.
 use Rattle.std.proofs.Common.{◌≡◌, ◌<◌, ◌^◌, ◌+◌, ℕ, pos, not, true, false, List, [], ◌∷◌, ◌++◌, length, map, codes, sym, ap, refl, subst, ◌∙◌, arith, append_assoc, append-nil}
 use Rattle.std.specs.Prelude.{IsTrue, decimal}
-use Rattle.std.specs.List.{concat, AllByRecursion}
+use Rattle.std.specs.List.{concat, All}
+use Rattle.std.proofs.lemmas.List.Elements.{All-head, All-tail}
 use Rattle.std.proofs.lemmas.Fmt.{decimal_digit}
 use Rattle.hex.specs.Hex.{encode_lower}
 use Rattle.chc_sexpr.specs.Tokens.{is_simple_symbol, is_reserved}
@@ -12,7 +13,7 @@ use Rattle.chc_sexpr.proofs.Written.{is_parted, tree_of_kind, TreeAt, TreesAt, s
 use Rattle.chc_state.specs.declared.step.Step.{Step}
 use Rattle.chc_state.specs.declared.step.Step.TheVariants as step
 use Rattle.chc_trace.specs.declared.trace.Trace.{Trace}
-use Rattle.chc_trace.specs.Traces.{numbers_text, step_line, step_text, trace_lines, AreNumbers, IsForm, IsStepOf, IsStepTree, AreTarget, AreSteps, IsMark, IsDigest, IsSource, AreTraceOf, SaysTrace, AreSmall, HasSmallNumbers, AreSmallSteps}
+use Rattle.chc_trace.specs.Traces.{numbers_text, step_line, step_text, trace_lines, AreNumbers, IsForm, IsStepOf, IsStepTree, AreTarget, AreSteps, IsMark, IsDigest, IsSource, AreTraceOf, SaysTrace, AreSmall, HasSmallNumbers}
 
 -- how deep the trees inside a form may be
 abbrev inside : ℕ
@@ -41,10 +42,11 @@ numbers_parted (n ∷ ns) = refl
 numbers_at : (ns : List ℕ) → AreSmall ns → (place : ℕ) → TreesAt (λ ts. AreNumbers ts ns) inside false place (numbers_text ns)
 numbers_at [] small place = no_more_at (λ ts. AreNumbers ts []) inside false place [] refl tt
 numbers_at (n ∷ ns) small place =
+    let first : n < 2 ^ 32 = All-head (λ m. m < 2 ^ 32) n ns small in
     next_at (λ t. (at : ℕ) × (t ≡ Numeral at (pos n))) (λ ts. AreNumbers ts ns) (λ ts. AreNumbers ts (n ∷ ns)) inside false place (32 ∷ []) (decimal n) (numbers_text ns) refl
-    (numeral_at (λ t. (at : ℕ) × (t ≡ Numeral at (pos n))) inside (place + 1) n (numbers_text ns) (numbers_parted ns) (let h = small.0 in omega arith) (place + 1, refl))
-    (numbers_at ns small.1 (place + 1 + length (decimal n)))
-    (λ t ts one more. (one.0, one.1, small.0, more))
+    (numeral_at (λ t. (at : ℕ) × (t ≡ Numeral at (pos n))) inside (place + 1) n (numbers_text ns) (numbers_parted ns) (omega arith) (place + 1, refl))
+    (numbers_at ns (All-tail (λ m. m < 2 ^ 32) n ns small) (place + 1 + length (decimal n)))
+    (λ t ts one more. (one.0, one.1, first, more))
 
 -- ---- steps
 
@@ -136,7 +138,7 @@ rest_text_is x group line xs target =
     ∙ append_assoc group (10 ∷ []) (rest_text xs target)
 
 -- these lines, behind the end of a line
-lines_at : (xs : List Step) → AreSmallSteps xs → (target : List ℕ) (place : ℕ) → TreesAt (λ ts. AreSteps ts xs target) (inside + 1) true place (10 ∷ rest_text xs target)
+lines_at : (xs : List Step) → All HasSmallNumbers xs → (target : List ℕ) (place : ℕ) → TreesAt (λ ts. AreSteps ts xs target) (inside + 1) true place (10 ∷ rest_text xs target)
 lines_at [] small target place =
     next_at (λ t. (at : ℕ) × IsForm (codes "target") (Text at target ∷ []) t) (λ ts. ts ≡ []) (λ ts. AreSteps ts [] target) (inside + 1) true place (10 ∷ [])
     (string_group (codes "target") target) (10 ∷ []) refl
@@ -144,10 +146,10 @@ lines_at [] small target place =
     (no_more_at (λ ts. ts ≡ []) (inside + 1) true (place + 1 + length (string_group (codes "target") target)) (10 ∷ []) refl refl)
     (λ t ts one none. subst (λ (us : List Tree). AreTarget (t ∷ us) target) (sym none) one)
 lines_at (x ∷ xs) small target place =
-    let first = line_of_step x small.0 in
+    let first = line_of_step x (All-head HasSmallNumbers x xs small) in
     subst (λ (bytes : List ℕ). TreesAt (λ ts. AreSteps ts (x ∷ xs) target) (inside + 1) true place (10 ∷ bytes)) (sym (rest_text_is x first.group first.line xs target))
     (next_at (λ t. IsStepTree t x) (λ ts. AreSteps ts xs target) (λ ts. AreSteps ts (x ∷ xs) target) (inside + 1) true place (10 ∷ []) first.group (10 ∷ rest_text xs target) refl
-    (first.written (place + 1) (10 ∷ rest_text xs target)) (lines_at xs small.1 target (place + 1 + length first.group))
+    (first.written (place + 1) (10 ∷ rest_text xs target)) (lines_at xs (All-tail HasSmallNumbers x xs small) target (place + 1 + length first.group))
     (λ t ts one more. (one, more)))
 
 -- ---- the whole
@@ -157,7 +159,7 @@ abbrev SourceTrees : Trace → List Tree → Type 0
 SourceTrees t [] = ⊥
 SourceTrees t (source ∷ more) = IsSource t.source source × AreSteps more t.steps t.target
 
-source_at : (t : Trace) → IsDigest t.source → AreSmallSteps t.steps → (place : ℕ)
+source_at : (t : Trace) → IsDigest t.source → All HasSmallNumbers t.steps → (place : ℕ)
     → TreesAt (SourceTrees t) (inside + 1) true place (10 ∷ (string_group (codes "source") (encode_lower t.source) ++ (10 ∷ rest_text t.steps t.target)))
 source_at t digest small place =
     let group : List ℕ = string_group (codes "source") (encode_lower t.source) in
@@ -199,7 +201,7 @@ lines_are t =
     ∙ sym (ap (λ (text : List ℕ). codes "(chc-trace 1)\n" ++ text) (source ∙ ap (λ (text : List ℕ). codes "(source " ++ (string_of (encode_lower t.source) ++ (codes ")\n" ++ (concat (map step_text t.steps) ++ text)))) target))
 
 -- the lines of a trace say it, if its source is a digest and its numbers are below 2^32
-pub lines_say : (t : Trace) → IsDigest t.source → AreSmallSteps t.steps → SaysTrace (trace_lines t) t
+pub lines_say : (t : Trace) → IsDigest t.source → All HasSmallNumbers t.steps → SaysTrace (trace_lines t) t
 lines_say t digest small =
     let rest : List ℕ = 10 ∷ (string_group (codes "source") (encode_lower t.source) ++ (10 ∷ rest_text t.steps t.target)) in
     let trees : TreesAt (λ ts. AreTraceOf ts t) (inside + 1) true 0 (codes "(chc-trace 1)" ++ rest) =

@@ -1,6 +1,6 @@
 -- The text of a trace, and the texts that say one.
 use Rattle.std.specs.Prelude.{◌≡◌, ◌<◌, ◌^◌, ℕ, pos, List, [], ◌∷◌, ◌++◌, map, length, codes, decimal, Option, Some, None, Result, Ok, Err, ⊤}
-use Rattle.std.specs.List.{concat}
+use Rattle.std.specs.List.{concat, All}
 use Rattle.hex.specs.Hex.{encode_lower, IsBytes}
 use Rattle.chc_sorts.specs.declared.memory.NoMemory.{NoMemory}
 use Rattle.chc_sexpr.specs.declared.tree.Tree.{Tree}
@@ -32,18 +32,12 @@ trace_lines t =
 
 -- numbers below 2^32
 abbrev pub AreSmall : List ℕ → Type 0
-AreSmall [] = Unit {0}
-AreSmall (n ∷ ns) = (n < 2 ^ 32) × AreSmall ns
+AreSmall ns = All (λ n. n < 2 ^ 32) ns
 
 -- a step on predicates of such numbers
 abbrev pub HasSmallNumbers : Step → Type 0
 HasSmallNumbers (step.Unreached preds) = AreSmall preds
 HasSmallNumbers (step.Unneeded preds) = AreSmall preds
-
--- steps on such predicates
-abbrev pub AreSmallSteps : List Step → Type 0
-AreSmallSteps [] = Unit {0}
-AreSmallSteps (x ∷ xs) = HasSmallNumbers x × AreSmallSteps xs
 
 -- the trees are these numbers, each below 2^32
 abbrev pub AreNumbers : List Tree → List ℕ → Type 0
