@@ -6,7 +6,7 @@ use Rattle.std.proofs.lemmas.List.Elements.{All-head, All-tail}
 use Rattle.std.proofs.lemmas.Fmt.{decimal_digit}
 use Rattle.hex.specs.Hex.{encode_lower}
 use Rattle.chc_sexpr.specs.Tokens.{is_simple_symbol, is_reserved}
-use Rattle.chc_sexpr.specs.Spelling.{string_of, Spells}
+use Rattle.chc_sexpr.specs.Spelling.{string_of}
 use Rattle.chc_sexpr.specs.declared.tree.Tree.{Tree}
 use Rattle.chc_sexpr.specs.declared.tree.Tree.TheVariants.{Symbol, Numeral, Text, Group}
 use Rattle.chc_sexpr.proofs.Written.{is_parted, tree_of_kind, TreeAt, TreesAt, symbol_at, numeral_at, string_at, no_more_at, next_at, group_at, spells_from}

@@ -1,4 +1,4 @@
-use Rattle.std.proofs.Common.{rules, ◌≡◌, subst, sym, ◌∙◌}
+use Rattle.std.proofs.Common.{rules, ◌≡◌, subst, sym}
 use Rattle.std.specs.List.{All}
 use Rattle.chc_trace.specs.Traces.{trace_lines, SaysTrace, HasSmallNumbers}
 use Rattle.chc_trace.proofs.Printed.{lines_say}
