@@ -2,9 +2,8 @@
 use Rattle.std.specs.Prelude.{◌≡◌, ◌≢◌, ◌⊎◌, ◌≤◌, ◌<◌, ◌^◌, ◌+◌, ◌==◌, ℕ, ℤ, pos, Bool, true, false, not, ◌&&◌, ◌||◌, cond, IsTrue, List, [], ◌∷◌, ◌++◌, length, map, decimal, codes, Result, Ok, Err, ⊤}
 use Rattle.std.specs.List.{list_all, list_any, concat}
 use Rattle.std.specs.Char.{is_ascii_digit, is_ascii_hexdigit}
-use Rattle.chc_sexpr.specs.Tokens.{is_white, is_symbol_byte, is_simple_symbol, is_reserved}
-use Rattle.chc_sexpr.specs.Trees.{depth_all}
-use Rattle.chc_sexpr.specs.Lexemes.{most_open}
+use Rattle.chc_sexpr.specs.Tokens.{is_white, is_symbol_byte, is_simple_symbol, is_reserved, is_whole_number}
+use Rattle.chc_sexpr.specs.Trees.{depth_all, most_open}
 use Rattle.chc_sexpr.specs.declared.fault.TextErr.{TextErr}
 use Rattle.chc_sexpr.specs.declared.fault.TextErr.TheVariants as text_err
 use Rattle.chc_sexpr.specs.declared.tree.Tree.{Tree, rec-Tree}
@@ -46,14 +45,15 @@ abbrev pub is_run : (ℕ → Bool) → List ℕ → Bool
 is_run test [] = false
 is_run test (b ∷ bs) = list_all test (b ∷ bs)
 
--- a decimal: a number, a point, and at least one digit
+-- a decimal: a whole number, a point, and at least one digit
 abbrev pub IsDecimal : List ℕ → Type 0
-IsDecimal bs = (n : ℕ) × (digits : List ℕ) × (bs ≡ decimal n ++ 46 ∷ digits) × IsTrue (is_run is_ascii_digit digits)
+IsDecimal bs = (whole digits : List ℕ) × (bs ≡ whole ++ 46 ∷ digits) × IsTrue (is_whole_number whole) × IsTrue (is_run is_ascii_digit digits)
 
 -- `#x` and hexadecimal digits
 abbrev pub IsHexadecimal : List ℕ → Type 0
 IsHexadecimal bs = (digits : List ℕ) × (bs ≡ codes "#x" ++ digits) × IsTrue (is_run is_ascii_hexdigit digits)
 
+-- a binary digit
 abbrev pub is_binary_digit : ℕ → Bool
 is_binary_digit b = b == 48 || b == 49
 
