@@ -1,12 +1,14 @@
 -- What a reader of trees has read so far, and what the rest of the text can make of it.
-use Rattle.std.specs.Prelude.{ℕ, ◌≡◌, ◌≢◌, ◌<◌, ◌≤◌, ◌+◌, Bool, true, false, List, [], ◌∷◌, ◌++◌, length, drop, reverse, Result, Ok, Err, ⊤}
+use Rattle.std.specs.Prelude.{ℕ, ◌≡◌, ◌≢◌, ◌<◌, ◌≤◌, ◌+◌, Bool, true, false, List, [], ◌∷◌, ◌++◌, length, drop, map, reverse, Result, Ok, Err, ⊤}
 use Rattle.chc_sexpr.specs.Tokens.{is_white}
-use Rattle.chc_sexpr.specs.Spelling.{EachSpelled, TreeSpelled}
+use Rattle.chc_sexpr.specs.Spelling.{EachSpelled, TreeSpelled, FirstFault}
 use Rattle.chc_sexpr.specs.Scanning.{fault_at}
 use Rattle.chc_sexpr.specs.Trees.{depth_all, most_open}
 use Rattle.chc_sexpr.specs.declared.draft.OpenGroup.{OpenGroup}
 use Rattle.chc_sexpr.specs.declared.draft.Draft.{Draft}
+use Rattle.chc_sexpr.specs.declared.fault.Fault.{Fault}
 use Rattle.chc_sexpr.specs.declared.fault.Fault.TheVariants.{OpenParen}
+use Rattle.chc_sexpr.specs.declared.fault.TextFault.{TextFault}
 use Rattle.chc_sexpr.specs.declared.fault.TextErr.{TextErr}
 use Rattle.chc_sexpr.specs.declared.fault.TextErr.TheVariants as text_err
 use Rattle.chc_sexpr.specs.declared.tree.Tree.{Tree}
@@ -38,6 +40,10 @@ AreShallow (g ∷ gs) trees = (depth_all trees + length (g ∷ gs) ≤ most_open
 pub record IsShallow (d : Draft) : Type 0 where
   pub is : AreShallow (reverse d.groups) d.trees
 
+-- the places of the open groups, innermost first
+abbrev pub open_places : Draft → List ℕ
+open_places d = map (λ g. g.place) (reverse d.groups)
+
 -- the new draft is the old one and n bytes of the rest of the text, from a place on
 pub record StepsTo (old new : Draft) (place : ℕ) (rest : List ℕ) (n : ℕ) : Type 0 where
   pub some : 0 < n
@@ -45,15 +51,18 @@ pub record StepsTo (old new : Draft) (place : ℕ) (rest : List ℕ) (n : ℕ) :
   pub there : (all : List Tree) → Ends old place rest all → Ends new (place + n) (drop n rest) all
   pub back : (all : List Tree) → Ends new (place + n) (drop n rest) all → Ends old place rest all
   pub shallow : IsShallow old → IsShallow new
+  pub faults : (fault : Fault) (at : ℕ) → FirstFault (open_places new) (place + n) (drop n rest) fault at → FirstFault (open_places old) place rest fault at
 
--- the rest of the text can't go on with the draft
-pub record Fails (d : Draft) (place : ℕ) (rest : List ℕ) : Type 0 where
-  pub none : IsShallow d → (all : List Tree) → depth_all all ≤ most_open → Ends d place rest all → ⊥
+-- the rest of the text, from a place on, can't go on with the draft, and the fault stands first in it
+pub record Fails (d : Draft) (place : ℕ) (rest : List ℕ) (fault : TextFault) : Type 0 where
+  pub none : (all : List Tree) → depth_all all ≤ most_open → Ends d place rest all → ⊥
+  pub first : FirstFault (open_places d) place rest fault.fault fault.place
+  pub nameless : fault.name ≡ []
 
 -- what a step answers: how many bytes it took, or a fault where the text can't go on
 abbrev pub StepsOn : Draft → Draft → ℕ → List ℕ → Result ℕ TextErr → Type 0
 StepsOn old new place rest (Ok n) = StepsTo old new place rest n
-StepsOn old new place rest (Err (text_err.At fault)) = Fails old place rest
+StepsOn old new place rest (Err (text_err.At fault)) = Fails old place rest fault
 StepsOn old new place rest (Err text_err.NoMemory) = ⊤
 
 -- a byte that is neither white space nor a parenthesis, and begins no comment

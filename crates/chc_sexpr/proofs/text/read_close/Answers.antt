@@ -1,13 +1,12 @@
-use Rattle.std.proofs.Common.{◌≡◌, ℕ, List, arith, sym, subst, drop, ◌∙◌}
-use Rattle.chc_sexpr.specs.Drafts.{StepsTo, Fails}
-use Rattle.chc_sexpr.proofs.Steps.{close_step, close_fails, first_byte}
+use Rattle.std.proofs.Common.{sym, subst, drop, ◌∙◌}
+use Rattle.chc_sexpr.specs.Drafts.{StepsTo}
+use Rattle.chc_sexpr.proofs.Steps.{close_step, close_refused, first_byte}
 use Rattle.chc_sexpr.proofs.text.read_close.Goals as goal
 
 pub returns-then-len-eq0 : goal.returns-then-len-eq0
 returns-then-len-eq0 c =
-    let rest = c.args.rest.now in
-    let first = first_byte rest 41 c.requires.some c.requires.byte in
-    rw c.fault.ensures (subst (Fails c.args.draft.now c.args.place) (sym first) (close_fails c.args.draft.now c.args.place (drop 1 rest) (sym c.len.ensures ∙ c.if-len-eq0.true)))
+    let first = first_byte c.args.rest.now 41 c.requires.some c.requires.byte in
+    rw c.fault.ensures (close_refused c.args.draft.now c.args.place c.args.rest.now first (sym c.len.ensures ∙ c.if-len-eq0.true))
 
 pub returns : goal.returns
 returns c =
