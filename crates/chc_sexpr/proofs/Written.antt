@@ -7,57 +7,11 @@ use Rattle.std.proofs.Math.Nat.{max-le}
 use Rattle.chc_sexpr.specs.Tokens.{is_white, is_symbol_byte, is_simple_symbol, is_reserved}
 use Rattle.chc_sexpr.specs.Trees.{depth, depth_step, depth_all}
 use Rattle.chc_sexpr.specs.Spelling.{is_gap, is_blank_in, is_quotable, is_keyword, stops, string_of, EachSpelled, LevelSpelled, TreeSpelled, Spells}
-use Rattle.chc_sexpr.specs.declared.tree.Tree.{Tree, roll-Tree, map-Tree, rec-roll-Tree}
+use Rattle.chc_sexpr.specs.declared.tree.Tree.{Tree}
 use Rattle.chc_sexpr.specs.declared.tree.Tree.TheOpen.{Tree-F}
-use Rattle.chc_sexpr.specs.declared.tree.Tree.TheVariants.{Symbol, Word, Keyword, Numeral, Text, Other, Group, rolls-Symbol, rolls-Word, rolls-Keyword, rolls-Numeral, rolls-Text, rolls-Other, rolls-Group}
+use Rattle.chc_sexpr.specs.declared.tree.Tree.TheVariants.{Symbol, Word, Keyword, Numeral, Text, Group}
 use Rattle.chc_sexpr.proofs.Folds.{fold-Symbol, fold-Word, fold-Keyword, fold-Numeral, fold-Text, fold-Group}
-
--- ---- what is spelled at each variant
-
--- what texts say of X, and what they say of the trees that those stand for, are the same
-module _ (X Y : Type 0) (f : X → Y) (spelled : Y → ℕ → List ℕ → List ℕ → Type 0) where
-  EachSpelled-map : (ends : Bool) (xs : List X) (place : ℕ) (bs : List ℕ) → EachSpelled (λ x. spelled (f x)) ends xs place bs ≡ EachSpelled spelled ends (map f xs) place bs
-  EachSpelled-map ends [] place bs = refl
-  EachSpelled-map ends (x ∷ xs) place bs = λ i.
-      (gap text after : List ℕ) × (bs ≡ gap ++ text ++ after) × IsTrue (is_gap gap)
-      × spelled (f x) (place + length gap) text after × EachSpelled-map ends xs (place + length gap + length text) after i
-
-  LevelSpelled-map : (level : Tree-F X) (place : ℕ) (text after : List ℕ)
-      → LevelSpelled (λ x. spelled (f x)) level place text after ≡ LevelSpelled spelled (map-Tree X Y f level) place text after
-  LevelSpelled-map (Tree-F.Symbol at name) place text after = refl
-  LevelSpelled-map (Tree-F.Word at word) place text after = refl
-  LevelSpelled-map (Tree-F.Keyword at word) place text after = refl
-  LevelSpelled-map (Tree-F.Numeral at number) place text after = refl
-  LevelSpelled-map (Tree-F.Text at bytes) place text after = refl
-  LevelSpelled-map (Tree-F.Other at token) place text after = refl
-  LevelSpelled-map (Tree-F.Group at xs) place text after = λ i.
-      (at ≡ place) × (inner : List ℕ) × (text ≡ 40 ∷ inner ++ 41 ∷ []) × EachSpelled-map false xs (place + 1) inner i
-
-TreeSpelled-roll : (level : Tree-F Tree) → TreeSpelled (roll-Tree level) ≡ LevelSpelled TreeSpelled level
-TreeSpelled-roll level =
-    rec-roll-Tree (ℕ → List ℕ → List ℕ → Type 0) (λ X whole spelled level. LevelSpelled spelled level)
-    (λ X v k x. λ i place text after. LevelSpelled-map X Tree v k x place text after i) level
-
-pub TreeSpelled-Symbol : (at : ℕ) (name : List ℕ) → TreeSpelled (Symbol at name) ≡ LevelSpelled TreeSpelled (Tree-F.Symbol at name)
-TreeSpelled-Symbol at name = ap TreeSpelled (sym (rolls-Symbol at name)) ∙ TreeSpelled-roll (Tree-F.Symbol at name)
-
-pub TreeSpelled-Word : (at : ℕ) (word : List ℕ) → TreeSpelled (Word at word) ≡ LevelSpelled TreeSpelled (Tree-F.Word at word)
-TreeSpelled-Word at word = ap TreeSpelled (sym (rolls-Word at word)) ∙ TreeSpelled-roll (Tree-F.Word at word)
-
-pub TreeSpelled-Keyword : (at : ℕ) (word : List ℕ) → TreeSpelled (Keyword at word) ≡ LevelSpelled TreeSpelled (Tree-F.Keyword at word)
-TreeSpelled-Keyword at word = ap TreeSpelled (sym (rolls-Keyword at word)) ∙ TreeSpelled-roll (Tree-F.Keyword at word)
-
-pub TreeSpelled-Numeral : (at : ℕ) (number : ℤ) → TreeSpelled (Numeral at number) ≡ LevelSpelled TreeSpelled (Tree-F.Numeral at number)
-TreeSpelled-Numeral at number = ap TreeSpelled (sym (rolls-Numeral at number)) ∙ TreeSpelled-roll (Tree-F.Numeral at number)
-
-pub TreeSpelled-Text : (at : ℕ) (bytes : List ℕ) → TreeSpelled (Text at bytes) ≡ LevelSpelled TreeSpelled (Tree-F.Text at bytes)
-TreeSpelled-Text at bytes = ap TreeSpelled (sym (rolls-Text at bytes)) ∙ TreeSpelled-roll (Tree-F.Text at bytes)
-
-pub TreeSpelled-Other : (at : ℕ) (token : List ℕ) → TreeSpelled (Other at token) ≡ LevelSpelled TreeSpelled (Tree-F.Other at token)
-TreeSpelled-Other at token = ap TreeSpelled (sym (rolls-Other at token)) ∙ TreeSpelled-roll (Tree-F.Other at token)
-
-pub TreeSpelled-Group : (at : ℕ) (inner : List Tree) → TreeSpelled (Group at inner) ≡ LevelSpelled TreeSpelled (Tree-F.Group at inner)
-TreeSpelled-Group at inner = ap TreeSpelled (sym (rolls-Group at inner)) ∙ TreeSpelled-roll (Tree-F.Group at inner)
+use Rattle.chc_sexpr.proofs.Spelled.{shut, spelled-Symbol, spelled-Word, spelled-Keyword, spelled-Numeral, spelled-Text, spelled-Group}
 
 -- ---- what stands behind a tree
 
@@ -134,7 +88,7 @@ module _ (kind : Tree → Type 0) (deep place : ℕ) where
   at_tree : (t : Tree) (level : Tree-F Tree) (text after : List ℕ) → TreeSpelled t ≡ LevelSpelled TreeSpelled level → kind t → depth t ≤ deep
       → LevelSpelled TreeSpelled level place text after → TreeAt kind deep place text after
   at_tree t level text after e is shallow h =
-      record { tree = t; is = is; shallow = shallow; spelled = subst (λ (s : ℕ → List ℕ → List ℕ → Type 0). s place text after) (sym e) h }
+      record { tree = t; is = is; shallow = shallow; spelled = shut e place text after h }
 
   at_leaf : (t : Tree) (level : Tree-F Tree) (text after : List ℕ) → TreeSpelled t ≡ LevelSpelled TreeSpelled level → kind t → depth t ≡ 0
       → LevelSpelled TreeSpelled level place text after → TreeAt kind deep place text after
@@ -144,37 +98,37 @@ module _ (kind : Tree → Type 0) (deep place : ℕ) where
   pub symbol_at : (name after : List ℕ) → IsTrue (is_parted after) → IsTrue (is_simple_symbol name) → IsTrue (not (is_reserved name)) → kind (Symbol place name)
       → TreeAt kind deep place name after
   symbol_at name after parted simple free is =
-      at_leaf (Symbol place name) (Tree-F.Symbol place name) name after (TreeSpelled-Symbol place name) is (fold-Symbol ℕ depth_step place name)
+      at_leaf (Symbol place name) (Tree-F.Symbol place name) name after (spelled-Symbol place name) is (fold-Symbol ℕ depth_step place name)
       (refl, inl (refl, simple, free, stops_symbol after parted))
 
   -- a symbol between bars
   pub quoted_at : (name after : List ℕ) → IsTrue (list_all is_quotable name) → kind (Symbol place name) → TreeAt kind deep place (124 ∷ name ++ 124 ∷ []) after
   quoted_at name after quotable is =
-      at_leaf (Symbol place name) (Tree-F.Symbol place name) (124 ∷ name ++ 124 ∷ []) after (TreeSpelled-Symbol place name) is (fold-Symbol ℕ depth_step place name)
+      at_leaf (Symbol place name) (Tree-F.Symbol place name) (124 ∷ name ++ 124 ∷ []) after (spelled-Symbol place name) is (fold-Symbol ℕ depth_step place name)
       (refl, inr (refl, quotable))
 
   -- a reserved word
   pub word_at : (word after : List ℕ) → IsTrue (is_parted after) → IsTrue (is_reserved word) → kind (Word place word) → TreeAt kind deep place word after
   word_at word after parted reserved is =
-      at_leaf (Word place word) (Tree-F.Word place word) word after (TreeSpelled-Word place word) is (fold-Word ℕ depth_step place word)
+      at_leaf (Word place word) (Tree-F.Word place word) word after (spelled-Word place word) is (fold-Word ℕ depth_step place word)
       (refl, refl, reserved, stops_symbol after parted)
 
   -- a keyword
   pub keyword_at : (word after : List ℕ) → IsTrue (is_parted after) → IsTrue (is_keyword word) → kind (Keyword place word) → TreeAt kind deep place word after
   keyword_at word after parted key is =
-      at_leaf (Keyword place word) (Tree-F.Keyword place word) word after (TreeSpelled-Keyword place word) is (fold-Keyword ℕ depth_step place word)
+      at_leaf (Keyword place word) (Tree-F.Keyword place word) word after (spelled-Keyword place word) is (fold-Keyword ℕ depth_step place word)
       (refl, refl, key, stops_symbol after parted)
 
   -- a number in decimal
   pub numeral_at : (n : ℕ) (after : List ℕ) → IsTrue (is_parted after) → n < 2 ^ 127 → kind (Numeral place (pos n)) → TreeAt kind deep place (decimal n) after
   numeral_at n after parted small is =
-      at_leaf (Numeral place (pos n)) (Tree-F.Numeral place (pos n)) (decimal n) after (TreeSpelled-Numeral place (pos n)) is (fold-Numeral ℕ depth_step place (pos n))
+      at_leaf (Numeral place (pos n)) (Tree-F.Numeral place (pos n)) (decimal n) after (spelled-Numeral place (pos n)) is (fold-Numeral ℕ depth_step place (pos n))
       (refl, n, refl, small, refl, stops_symbol after parted)
 
   -- a string
   pub string_at : (bytes after : List ℕ) → IsTrue (is_parted after) → kind (Text place bytes) → TreeAt kind deep place (string_of bytes) after
   string_at bytes after parted is =
-      at_leaf (Text place bytes) (Tree-F.Text place bytes) (string_of bytes) after (TreeSpelled-Text place bytes) is (fold-Text ℕ depth_step place bytes)
+      at_leaf (Text place bytes) (Tree-F.Text place bytes) (string_of bytes) after (spelled-Text place bytes) is (fold-Text ℕ depth_step place bytes)
       (refl, refl, stops_string after parted)
 
 -- ---- trees side by side
@@ -202,7 +156,7 @@ pub group_at : (inside : List Tree → Type 0) (kind : Tree → Type 0) (deep pl
     → ((ts : List Tree) → inside ts → kind (Group place ts)) → TreeAt kind (deep + 1) place (40 ∷ inner ++ 41 ∷ []) after
 group_at inside kind deep place inner after ts is =
     let deepest : depth (Group place ts.trees) ≡ depth_all ts.trees + 1 = fold-Group ℕ depth_step place ts.trees in
-    at_tree kind (deep + 1) place (Group place ts.trees) (Tree-F.Group place ts.trees) (40 ∷ inner ++ 41 ∷ []) after (TreeSpelled-Group place ts.trees) (is ts.trees ts.are)
+    at_tree kind (deep + 1) place (Group place ts.trees) (Tree-F.Group place ts.trees) (40 ∷ inner ++ 41 ∷ []) after (spelled-Group place ts.trees) (is ts.trees ts.are)
     (let h = ts.shallow in omega arith) (refl, inner, refl, ts.spelled)
 
 -- ---- trees, one for each element
