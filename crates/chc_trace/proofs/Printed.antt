@@ -19,17 +19,42 @@ use Rattle.chc_trace.specs.Traces.{numbers_text, step_line, step_text, trace_lin
 abbrev inside : ℕ
 inside = 999
 
--- what stands behind a form's symbol, where that is a list of the kind
+-- a tree is the symbol, the numeral or the string, at some place
+abbrev IsSymbol : List ℕ → Tree → Type 0
+IsSymbol name t = (at : ℕ) × (t ≡ Symbol at name)
+
+abbrev IsNumeral : ℕ → Tree → Type 0
+IsNumeral n t = (at : ℕ) × (t ≡ Numeral at (pos n))
+
+abbrev IsString : List ℕ → Tree → Type 0
+IsString bytes t = (at : ℕ) × (t ≡ Text at bytes)
+
+-- the trees are one such tree and no more
+abbrev AreNumeral : ℕ → List Tree → Type 0
+AreNumeral n ts = (at : ℕ) × (ts ≡ Numeral at (pos n) ∷ [])
+
+abbrev AreString : List ℕ → List Tree → Type 0
+AreString bytes ts = (at : ℕ) × (ts ≡ Text at bytes ∷ [])
+
+-- a form of the name, behind which trees of the kind stand
+abbrev FormTree : List ℕ → (List Tree → Type 0) → Tree → Type 0
+FormTree name kind t = (more : List Tree) × IsForm name more t × kind more
+
+-- a form of the name that holds the string and nothing else
+abbrev StringForm : List ℕ → List ℕ → Tree → Type 0
+StringForm name bytes t = (at : ℕ) × IsForm name (Text at bytes ∷ []) t
+
+-- the trees of a form of the name, behind whose symbol trees of the kind stand
 abbrev FormTrees : List ℕ → (List Tree → Type 0) → List Tree → Type 0
 FormTrees name kind ts = (place : ℕ) × (more : List Tree) × (ts ≡ Symbol place name ∷ more) × kind more
 
 -- a form of the name and the trees behind it is a tree
 form_at : (name : List ℕ) → IsTrue (is_simple_symbol name) → IsTrue (not (is_reserved name)) → (kind : List Tree → Type 0) (place : ℕ) (rest after : List ℕ) → IsTrue (is_parted rest)
-    → ((at : ℕ) → TreesAt kind inside false at rest) → TreeAt (λ t. (more : List Tree) × IsForm name more t × kind more) (inside + 1) place (40 ∷ (name ++ rest) ++ 41 ∷ []) after
+    → ((at : ℕ) → TreesAt kind inside false at rest) → TreeAt (FormTree name kind) (inside + 1) place (40 ∷ (name ++ rest) ++ 41 ∷ []) after
 form_at name simple free kind place rest after parted trees =
-    group_at (FormTrees name kind) (λ t. (more : List Tree) × IsForm name more t × kind more) inside place (name ++ rest) after
-    (next_at (λ t. (at : ℕ) × (t ≡ Symbol at name)) kind (FormTrees name kind) inside false (place + 1) [] name rest refl
-    (symbol_at (λ t. (at : ℕ) × (t ≡ Symbol at name)) inside (place + 1 + 0) name rest parted simple free (place + 1 + 0, refl))
+    group_at (FormTrees name kind) (FormTree name kind) inside place (name ++ rest) after
+    (next_at (IsSymbol name) kind (FormTrees name kind) inside false (place + 1) [] name rest refl
+    (symbol_at (IsSymbol name) inside (place + 1 + 0) name rest parted simple free (place + 1 + 0, refl))
     (trees (place + 1 + 0 + length name))
     (λ t ts one more. (one.0, ts, ap (λ (u : Tree). u ∷ ts) one.1, more)))
     (λ ts h. (h.1, (place, h.0, ap (Group place) h.2), h.3))
@@ -43,8 +68,8 @@ numbers_at : (ns : List ℕ) → AreSmall ns → (place : ℕ) → TreesAt (λ t
 numbers_at [] small place = no_more_at (λ ts. AreNumbers ts []) inside false place [] refl tt
 numbers_at (n ∷ ns) small place =
     let first : n < 2 ^ 32 = All-head (λ m. m < 2 ^ 32) n ns small in
-    next_at (λ t. (at : ℕ) × (t ≡ Numeral at (pos n))) (λ ts. AreNumbers ts ns) (λ ts. AreNumbers ts (n ∷ ns)) inside false place (32 ∷ []) (decimal n) (numbers_text ns) refl
-    (numeral_at (λ t. (at : ℕ) × (t ≡ Numeral at (pos n))) inside (place + 1) n (numbers_text ns) (numbers_parted ns) (omega arith) (place + 1, refl))
+    next_at (IsNumeral n) (λ ts. AreNumbers ts ns) (λ ts. AreNumbers ts (n ∷ ns)) inside false place (32 ∷ []) (decimal n) (numbers_text ns) refl
+    (numeral_at (IsNumeral n) inside (place + 1) n (numbers_text ns) (numbers_parted ns) (omega arith) (place + 1, refl))
     (numbers_at ns (All-tail (λ m. m < 2 ^ 32) n ns small) (place + 1 + length (decimal n)))
     (λ t ts one more. (one.0, one.1, first, more))
 
@@ -57,8 +82,8 @@ KindTrees word preds ts = (place : ℕ) × (numbers : List Tree) × (ts ≡ Symb
 kind_at : (word : List ℕ) → IsTrue (is_simple_symbol word) → IsTrue (not (is_reserved word)) → (preds : List ℕ) → AreSmall preds → (place : ℕ)
     → TreesAt (KindTrees word preds) inside false place (32 ∷ word ++ numbers_text preds)
 kind_at word simple free preds small place =
-    next_at (λ t. (at : ℕ) × (t ≡ Symbol at word)) (λ ts. AreNumbers ts preds) (KindTrees word preds) inside false place (32 ∷ []) word (numbers_text preds) refl
-    (symbol_at (λ t. (at : ℕ) × (t ≡ Symbol at word)) inside (place + 1) word (numbers_text preds) (numbers_parted preds) simple free (place + 1, refl))
+    next_at (IsSymbol word) (λ ts. AreNumbers ts preds) (KindTrees word preds) inside false place (32 ∷ []) word (numbers_text preds) refl
+    (symbol_at (IsSymbol word) inside (place + 1) word (numbers_text preds) (numbers_parted preds) simple free (place + 1, refl))
     (numbers_at preds small (place + 1 + length word))
     (λ t ts one more. (one.0, ts, ap (λ (u : Tree). u ∷ ts) one.1, more))
 
@@ -72,7 +97,7 @@ step_line_is word preds = simp append_assoc
 step_of_kind_at : (word : List ℕ) → IsTrue (is_simple_symbol word) → IsTrue (not (is_reserved word)) → (preds : List ℕ) → AreSmall preds → (place : ℕ) (after : List ℕ)
     → TreeAt (IsStepOf word preds) (inside + 1) place (step_group word preds) after
 step_of_kind_at word simple free preds small place after =
-    tree_of_kind (λ t. (more : List Tree) × IsForm (codes "step") more t × KindTrees word preds more) (IsStepOf word preds) (inside + 1) (inside + 1) (omega arith)
+    tree_of_kind (FormTree (codes "step") (KindTrees word preds)) (IsStepOf word preds) (inside + 1) (inside + 1) (omega arith)
     (λ t h. (h.2.0, h.2.1, subst (λ (ts : List Tree). IsForm (codes "step") ts t) h.2.2 h.1, h.2.3)) place (step_group word preds) after
     (form_at (codes "step") refl refl (KindTrees word preds) place (32 ∷ word ++ numbers_text preds) after refl (kind_at word simple free preds small))
 
@@ -97,11 +122,11 @@ line_of_step (step.Unneeded preds) small = record {
 -- ---- the source and the target
 
 -- a string behind a space
-string_alone : (bytes : List ℕ) (place : ℕ) → TreesAt (λ ts. (at : ℕ) × (ts ≡ Text at bytes ∷ [])) inside false place (32 ∷ string_of bytes)
+string_alone : (bytes : List ℕ) (place : ℕ) → TreesAt (AreString bytes) inside false place (32 ∷ string_of bytes)
 string_alone bytes place =
-    subst (λ (text : List ℕ). TreesAt (λ ts. (at : ℕ) × (ts ≡ Text at bytes ∷ [])) inside false place (32 ∷ text)) (append-nil (string_of bytes))
-    (next_at (λ t. (at : ℕ) × (t ≡ Text at bytes)) (λ ts. ts ≡ []) (λ ts. (at : ℕ) × (ts ≡ Text at bytes ∷ [])) inside false place (32 ∷ []) (string_of bytes) [] refl
-    (string_at (λ t. (at : ℕ) × (t ≡ Text at bytes)) inside (place + 1) bytes [] refl (place + 1, refl))
+    subst (λ (text : List ℕ). TreesAt (AreString bytes) inside false place (32 ∷ text)) (append-nil (string_of bytes))
+    (next_at (IsString bytes) (λ ts. ts ≡ []) (AreString bytes) inside false place (32 ∷ []) (string_of bytes) [] refl
+    (string_at (IsString bytes) inside (place + 1) bytes [] refl (place + 1, refl))
     (no_more_at (λ ts. ts ≡ []) inside false (place + 1 + length (string_of bytes)) [] refl refl)
     (λ t ts one none. (one.0, λ i. one.1 i ∷ none i)))
 
@@ -110,12 +135,12 @@ abbrev string_group : List ℕ → List ℕ → List ℕ
 string_group name bytes = 40 ∷ (name ++ (32 ∷ string_of bytes)) ++ 41 ∷ []
 
 string_form_at : (name : List ℕ) → IsTrue (is_simple_symbol name) → IsTrue (not (is_reserved name)) → (bytes : List ℕ) (place : ℕ) (after : List ℕ)
-    → TreeAt (λ t. (at : ℕ) × IsForm name (Text at bytes ∷ []) t) (inside + 1) place (string_group name bytes) after
+    → TreeAt (StringForm name bytes) (inside + 1) place (string_group name bytes) after
 string_form_at name simple free bytes place after =
-    tree_of_kind (λ t. (more : List Tree) × IsForm name more t × ((at : ℕ) × (more ≡ Text at bytes ∷ []))) (λ t. (at : ℕ) × IsForm name (Text at bytes ∷ []) t)
+    tree_of_kind (FormTree name (AreString bytes)) (StringForm name bytes)
     (inside + 1) (inside + 1) (omega arith)
     (λ t h. (h.2.0, subst (λ (ts : List Tree). IsForm name ts t) h.2.1 h.1)) place (string_group name bytes) after
-    (form_at name simple free (λ ts. (at : ℕ) × (ts ≡ Text at bytes ∷ [])) place (32 ∷ string_of bytes) after refl (string_alone bytes))
+    (form_at name simple free (AreString bytes) place (32 ∷ string_of bytes) after refl (string_alone bytes))
 
 -- such a form at the end of a line
 string_line_is : (name bytes rest : List ℕ) → string_group name bytes ++ (10 ∷ rest) ≡ 40 ∷ (name ++ (32 ∷ (string_of bytes ++ (41 ∷ 10 ∷ rest))))
@@ -140,7 +165,7 @@ rest_text_is x group line xs target =
 -- these lines, behind the end of a line
 lines_at : (xs : List Step) → All HasSmallNumbers xs → (target : List ℕ) (place : ℕ) → TreesAt (λ ts. AreSteps ts xs target) (inside + 1) true place (10 ∷ rest_text xs target)
 lines_at [] small target place =
-    next_at (λ t. (at : ℕ) × IsForm (codes "target") (Text at target ∷ []) t) (λ ts. ts ≡ []) (λ ts. AreSteps ts [] target) (inside + 1) true place (10 ∷ [])
+    next_at (StringForm (codes "target") target) (λ ts. ts ≡ []) (λ ts. AreSteps ts [] target) (inside + 1) true place (10 ∷ [])
     (string_group (codes "target") target) (10 ∷ []) refl
     (string_form_at (codes "target") refl refl target (place + 1) (10 ∷ []))
     (no_more_at (λ ts. ts ≡ []) (inside + 1) true (place + 1 + length (string_group (codes "target") target)) (10 ∷ []) refl refl)
@@ -164,26 +189,26 @@ source_at : (t : Trace) → IsDigest t.source → All HasSmallNumbers t.steps �
 source_at t digest small place =
     let group : List ℕ = string_group (codes "source") (encode_lower t.source) in
     let rest : List ℕ = 10 ∷ rest_text t.steps t.target in
-    next_at (λ u. (at : ℕ) × IsForm (codes "source") (Text at (encode_lower t.source) ∷ []) u) (λ ts. AreSteps ts t.steps t.target) (SourceTrees t) (inside + 1) true place
+    next_at (StringForm (codes "source") (encode_lower t.source)) (λ ts. AreSteps ts t.steps t.target) (SourceTrees t) (inside + 1) true place
     (10 ∷ []) group rest refl
     (string_form_at (codes "source") refl refl (encode_lower t.source) (place + 1) rest)
     (lines_at t.steps small t.target (place + 1 + length group))
     (λ u ts one more. ((digest, one.0, one.1), more))
 
 -- the mark's numeral
-version_alone : (place : ℕ) → TreesAt (λ ts. (at : ℕ) × (ts ≡ Numeral at (pos 1) ∷ [])) inside false place (codes " 1")
+version_alone : (place : ℕ) → TreesAt (AreNumeral 1) inside false place (codes " 1")
 version_alone place =
-    subst (λ (digits : List ℕ). TreesAt (λ ts. (at : ℕ) × (ts ≡ Numeral at (pos 1) ∷ [])) inside false place (32 ∷ digits ++ [])) (decimal_digit 1 (omega arith))
-    (next_at (λ t. (at : ℕ) × (t ≡ Numeral at (pos 1))) (λ ts. ts ≡ []) (λ ts. (at : ℕ) × (ts ≡ Numeral at (pos 1) ∷ [])) inside false place (32 ∷ []) (decimal 1) [] refl
-    (numeral_at (λ t. (at : ℕ) × (t ≡ Numeral at (pos 1))) inside (place + 1) 1 [] refl (omega arith) (place + 1, refl))
+    subst (λ (digits : List ℕ). TreesAt (AreNumeral 1) inside false place (32 ∷ digits ++ [])) (decimal_digit 1 (omega arith))
+    (next_at (IsNumeral 1) (λ ts. ts ≡ []) (AreNumeral 1) inside false place (32 ∷ []) (decimal 1) [] refl
+    (numeral_at (IsNumeral 1) inside (place + 1) 1 [] refl (omega arith) (place + 1, refl))
     (no_more_at (λ ts. ts ≡ []) inside false (place + 1 + length (decimal 1)) [] refl refl)
     (λ t ts one none. (one.0, λ i. one.1 i ∷ none i)))
 
 mark_at : (place : ℕ) (after : List ℕ) → TreeAt IsMark (inside + 1) place (codes "(chc-trace 1)") after
 mark_at place after =
-    tree_of_kind (λ t. (more : List Tree) × IsForm (codes "chc-trace") more t × ((at : ℕ) × (more ≡ Numeral at (pos 1) ∷ []))) IsMark (inside + 1) (inside + 1) (omega arith)
+    tree_of_kind (FormTree (codes "chc-trace") (AreNumeral 1)) IsMark (inside + 1) (inside + 1) (omega arith)
     (λ t h. (h.2.0, subst (λ (ts : List Tree). IsForm (codes "chc-trace") ts t) h.2.1 h.1)) place (codes "(chc-trace 1)") after
-    (form_at (codes "chc-trace") refl refl (λ ts. (at : ℕ) × (ts ≡ Numeral at (pos 1) ∷ [])) place (codes " 1") after refl version_alone)
+    (form_at (codes "chc-trace") refl refl (AreNumeral 1) place (codes " 1") after refl version_alone)
 
 joins : (t : Trace) (mark : Tree) (ts : List Tree) → IsMark mark → SourceTrees t ts → AreTraceOf (mark ∷ ts) t
 joins t mark [] marked h = h
