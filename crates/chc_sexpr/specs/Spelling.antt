@@ -1,5 +1,5 @@
 -- What a text spells: trees of tokens, with white space and comments between them; and what is wrong with one that spells none.
-use Rattle.std.specs.Prelude.{◌≡◌, ◌≢◌, ◌⊎◌, ◌≤◌, ◌<◌, ◌^◌, ◌+◌, ◌==◌, ℕ, ℤ, pos, Bool, true, false, not, ◌&&◌, ◌||◌, cond, IsTrue, List, [], ◌∷◌, ◌++◌, length, map, decimal, codes, Result, Ok, Err, ⊤}
+use Rattle.std.specs.Prelude.{◌≡◌, ◌⊎◌, ◌≤◌, ◌<◌, ◌^◌, ◌+◌, ◌==◌, ℕ, pos, Bool, true, false, not, ◌&&◌, ◌||◌, cond, IsTrue, List, [], ◌∷◌, ◌++◌, length, map, decimal, codes, Result, Ok, Err, ⊤}
 use Rattle.std.specs.List.{list_all, list_any, concat}
 use Rattle.std.specs.Char.{is_ascii_digit, is_ascii_hexdigit}
 use Rattle.std.specs.Str.Parse.{digits_value}
@@ -178,6 +178,10 @@ pub data FirstFault : List ℕ → ℕ → List ℕ → Fault → ℕ → Type 0
 pub record IsFirstFault (bytes : List ℕ) (fault : TextFault) : Type 0 where
   pub first : FirstFault [] 0 bytes fault.fault fault.place
   pub nameless : fault.name ≡ []
+
+-- no text has two first faults
+abbrev pub HasOneFault : Type 0
+HasOneFault = (bytes : List ℕ) (one other : TextFault) → IsFirstFault bytes one → IsFirstFault bytes other → one ≡ other
 
 -- bytes that spell no trees
 abbrev pub SpellsNone : List ℕ → Type 0
