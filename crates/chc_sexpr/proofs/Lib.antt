@@ -11,3 +11,4 @@ pub mod Spelled
 pub mod Stands
 pub mod Steps
 pub mod Strings
+pub mod Written
