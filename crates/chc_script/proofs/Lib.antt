@@ -1,4 +1,3 @@
 pub mod Ints
-pub mod Live
 pub mod Tables
 pub mod TermLaws
