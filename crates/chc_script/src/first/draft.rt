@@ -1,10 +1,10 @@
 //! Drafts of scripts, and the commands that work on them.
 
-ghost use Rattle.std.specs.Prelude.{◌≡◌, Some, IfOk, codes};
+ghost use Rattle.std.specs.Prelude.{◌≡◌, Some, codes};
 ghost use Rattle.std.specs.List.{list_all};
 ghost use Rattle.std.specs.Option.{option_map};
 ghost use Rattle.chc_script.specs.Clauses.{assertion};
-ghost use Rattle.chc_script.specs.Made.{AreMade, IsMade};
+ghost use Rattle.chc_script.specs.Made.{AreMade};
 ghost use Rattle.chc_script.specs.Readings.{Gives};
 ghost use Rattle.chc_script.specs.Shapes.{is_symbol};
 ghost use Rattle.chc_script.specs.Scripts.{assert, at_stage, check, command, command_named, declare, declare_at, declare_parts, fresh, is_checked, is_fresh, is_open, may_declare, positions_of, set_logic, with_assertion};
@@ -248,10 +248,9 @@ impl Draft {
         }
     }
 
-    /// Adds an assertion and its clause.
-    fn with_assertion(self, assertion: Assertion) -> Result<Draft, NoMemory>
-        requires { IsMade self.declared.preds assertion }
-        ensures { IfOk result (λ longer. longer ≡ with_assertion self assertion) }
+    /// Adds the assertion of a tree, and its clause.
+    fn with_assertion(self, alloc: Global, tree: &Tree) -> Result<Option<Draft>, NoMemory>
+        ensures { Gives result (option_map (with_assertion self) (assertion self.declared tree.now)) }
     {
         let Draft {
             stage,
@@ -259,25 +258,18 @@ impl Draft {
             mut assertions,
             mut clauses,
         } = self;
+        let Some(assertion) = read_assertion(alloc, &declared, tree)? else {
+            return Ok(None);
+        };
         let Assertion { term, clause } = assertion;
         assertions.push(term)?;
         clauses.push(clause)?;
-        Ok(Draft {
+        Ok(Some(Draft {
             stage,
             declared,
             assertions,
             clauses,
-        })
-    }
-
-    /// Adds the assertion of a tree.
-    fn assert_tree(self, alloc: Global, tree: &Tree) -> Result<Option<Draft>, NoMemory>
-        ensures { Gives result (option_map (with_assertion self) (assertion self.declared tree.now)) }
-    {
-        match read_assertion(alloc, &self.declared, tree)? {
-            Some(assertion) => Ok(Some(self.with_assertion(assertion)?)),
-            None => Ok(None),
-        }
+        }))
     }
 
     /// `(assert A)`.
@@ -287,7 +279,7 @@ impl Draft {
         match args {
             [tree] => {
                 if self.stage.is_open() {
-                    self.assert_tree(alloc, tree)
+                    self.with_assertion(alloc, tree)
                 } else {
                     Ok(None)
                 }
