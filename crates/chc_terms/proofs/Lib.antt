@@ -3,3 +3,14 @@ pub mod Induction
 pub mod HasLaws
 pub mod SortLaws
 pub mod Meanings
+pub mod SameSort
+pub mod Division
+pub mod Arrays
+pub mod OperatorShapes
+pub mod PlainOperators
+pub mod ArrayOperators
+pub mod OperatorLaws
+pub mod SortSteps
+pub mod Uniqueness
+pub mod Existence
+pub mod TermLaws
