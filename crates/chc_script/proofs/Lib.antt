@@ -1,5 +1,6 @@
 pub mod Ints
 pub mod IntSorts
+pub mod Kept
 pub mod Made
 pub mod MadeLaws
 pub mod NameLaws

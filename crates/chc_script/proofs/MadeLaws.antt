@@ -1,28 +1,29 @@
 -- Clauses that were made of parts use live predicates alone and are well sorted.
-use Rattle.std.proofs.Common.{◌≡◌, ℕ, zero, suc, Bool, true, false, ◌&&◌, not, nat_eq, List, [], ◌∷◌, ◌++◌, length, map, Option, Some, None, slice_get, option_map, option_and_then, refl, ap, sym, subst, ◌∙◌}
+use Rattle.std.proofs.Common.{◌≡◌, ℕ, zero, suc, Bool, true, false, ◌&&◌, not, nat_eq, nat_lt, List, [], ◌∷◌, ◌++◌, length, map, Option, Some, None, slice_get, option_map, option_and_then, refl, ap, sym, subst, ◌∙◌}
 use Rattle.std.specs.List.{AllByRecursion, list_all}
 use Rattle.std.proofs.lemmas.Bool.{and_from, and_parts}
 use Rattle.std.proofs.lemmas.Bool.Decides.{Decides-eqb}
 use Rattle.std.proofs.lemmas.Option.{slice_get-map}
-use Rattle.chc_sorts.specs.declared.sort.Sort.{Sort}
+use Rattle.chc_sorts.specs.declared.sort.Sort.{Sort, Sort-F, fold-Sort, fold-roll-Sort}
 use Rattle.chc_sorts.specs.declared.sort.Sort.TheVariants as sort
 use Rattle.chc_sorts.specs.Signature.{Signature}
 use Rattle.chc_sexpr.specs.Spelling.{is_quotable}
 use Rattle.chc_terms.specs.declared.term.Term.{Term}
-use Rattle.chc_terms.specs.Sorted.{Context, sort_of, sorts_of, same_sorts, is_plain}
+use Rattle.chc_terms.proofs.SameSort.{same_itself, same_sorts_itself}
+use Rattle.chc_terms.specs.Sorted.{Context, sort_of, sorts_of, same_sorts, is_plain, is_declared_step, sort_depth, sort_depth_step, sort_fits}
 use Rattle.chc_state.specs.declared.clause.Atom.{Atom}
 use Rattle.chc_state.specs.declared.clause.Clause.{Clause}
 use Rattle.chc_state.specs.declared.clause.PredDecl.{PredDecl}
-use Rattle.chc_state.specs.Sorts.{clause_context, is_sort, are_sorts, positions, is_condition, is_sorted_atom, is_sorted_clause, are_sorted}
+use Rattle.chc_state.specs.Sorts.{clause_context, is_sort, are_sorts, positions, is_condition, is_sorted_atom, is_sorted_clause, positions_fit, are_sorted}
 use Rattle.chc_state.specs.States.{live_decl, on_live, head_all, uses_live}
 use Rattle.chc_script.specs.Clauses.{ints, constraints_of, atoms_of, clause_of}
-use Rattle.chc_script.specs.Made.{IsPlainOf, IsAtomOver, IsPartOver, IsHeadOver, IsMade, AreMade}
+use Rattle.chc_script.specs.Made.{IsPlainOf, HasInts, IsAtomOver, IsPartOver, IsHeadOver, IsMade, AreMade}
 use Rattle.chc_script.specs.Names.{has_name, is_fixed}
 use Rattle.chc_script.specs.Scripts.{DraftView, is_open, may_declare}
 use Rattle.chc_script.specs.declared.first.build.Assertion.{Assertion}
 use Rattle.chc_script.specs.declared.first.premise.Part.{Part}
 use Rattle.chc_script.specs.declared.first.premise.Part.TheVariants as part
-use Rattle.chc_script.proofs.IntSorts.{same_sort-Bool, same_ints}
+use Rattle.chc_script.proofs.Readings.{some_same, none_not_some}
 
 -- all of these terms are plain
 numbers_plain : (n : ℕ) (ts : List Term) → AllByRecursion (IsPlainOf sort.Int n) ts → list_all is_plain ts ≡ true
@@ -35,6 +36,22 @@ numbers_sorted cx n [] p = refl
 numbers_sorted cx n (t ∷ ts) p =
     ap (option_and_then (λ s. option_map (λ ss. s ∷ ss) (sorts_of cx ts (ints n)))) (p.0.sorted cx)
     ∙ ap (option_map (λ ss. sort.Int ∷ ss)) (numbers_sorted cx n ts p.1)
+
+-- Int fits every signature
+int_fits : (sig : Signature) → sort_fits sig sort.Int ≡ true
+int_fits sig =
+    let declared : fold-Sort Bool (is_declared_step sig) sort.Int ≡ true = ap (fold-Sort Bool (is_declared_step sig)) (sym sort.rolls-Int) ∙ fold-roll-Sort Bool (is_declared_step sig) Sort-F.Int in
+    let deep : sort_depth sort.Int ≡ 1 = ap sort_depth (sym sort.rolls-Int) ∙ fold-roll-Sort ℕ sort_depth_step Sort-F.Int in
+    and_from (fold-Sort Bool (is_declared_step sig) sort.Int) (nat_lt (sort_depth sort.Int) 17) declared (ap (λ n. nat_lt n 17) deep)
+
+ints_fit : (sig : Signature) (n : ℕ) → list_all (sort_fits sig) (ints n) ≡ true
+ints_fit sig zero = refl
+ints_fit sig (suc n) = and_from (sort_fits sig sort.Int) (list_all (sort_fits sig) (ints n)) (int_fits sig) (ints_fit sig n)
+
+int_positions_fit : (sig : Signature) (preds : List PredDecl) → AllByRecursion HasInts preds → positions_fit sig preds ≡ true
+int_positions_fit sig [] p = refl
+int_positions_fit sig (decl ∷ preds) p =
+    and_from (list_all (sort_fits sig) decl.sorts) (positions_fit sig preds) (ap (list_all (sort_fits sig)) p.0 ∙ ints_fit sig (length decl.sorts)) (int_positions_fit sig preds p.1)
 
 module _ (preds : List PredDecl) where
   -- the positions of an atom's predicate
@@ -63,7 +80,7 @@ module _ (preds : List PredDecl) where
 
   module _ (sig : Signature) where
     constraint_sorted : (n : ℕ) (t : Term) → IsPlainOf sort.Bool n t → is_condition sig (ints n) t ≡ true
-    constraint_sorted n t p = and_from (is_plain t) _ p.plain (ap (is_sort sort.Bool) (p.sorted (clause_context sig)) ∙ same_sort-Bool)
+    constraint_sorted n t p = and_from (is_plain t) _ p.plain (ap (is_sort sort.Bool) (p.sorted (clause_context sig)) ∙ same_itself sort.Bool)
 
     constraints_sorted : (n : ℕ) (parts : List Part) → AllByRecursion (IsPartOver preds n) parts → list_all (is_condition sig (ints n)) (constraints_of parts) ≡ true
     constraints_sorted n [] p = refl
@@ -78,7 +95,7 @@ module _ (preds : List PredDecl) where
     atom_sorted n a p =
         and_from (list_all is_plain a.args) (are_sorts (sorts_of (clause_context sig) a.args (ints n)) (slice_get (positions preds) a.pred)) (numbers_plain n a.args p.args)
         (ap (λ ss. are_sorts ss (slice_get (positions preds) a.pred)) (numbers_sorted (clause_context sig) n a.args p.args)
-        ∙ ap (are_sorts (Some (ints (length a.args)))) (positions-at n a p) ∙ same_ints (length a.args))
+        ∙ ap (are_sorts (Some (ints (length a.args)))) (positions-at n a p) ∙ same_sorts_itself (ints (length a.args)))
 
     atoms_sorted : (n : ℕ) (parts : List Part) → AllByRecursion (IsPartOver preds n) parts → list_all (sorted_under n) (atoms_of parts) ≡ true
     atoms_sorted n [] p = refl
@@ -94,12 +111,15 @@ module _ (preds : List PredDecl) where
         subst (λ (x : Assertion). is_sorted_clause sig (positions preds) x.clause ≡ true) (sym m.made)
         (and_from _ _ (and_from _ _ (constraints_sorted m.vars m.parts m.parts_over) (atoms_sorted m.vars m.parts m.parts_over)) (head_sorted m.vars m.head m.head_over))
 
-    pub made_sorted : (ts : List Term) (cs : List Clause) → AreMade preds ts cs → are_sorted sig preds cs ≡ true
-    made_sorted [] [] m = refl
-    made_sorted [] (c ∷ cs) m = absurd m
-    made_sorted (t ∷ ts) [] m = absurd m
-    made_sorted (t ∷ ts) (c ∷ cs) m =
-        and_from (is_sorted_clause sig (positions preds) c) (are_sorted sig preds cs) (clause_sorted (record { term = t; clause = c }) m.0) (made_sorted ts cs m.1)
+    clauses_sorted : (ts : List Term) (cs : List Clause) → AreMade preds ts cs → list_all (is_sorted_clause sig (positions preds)) cs ≡ true
+    clauses_sorted [] [] m = refl
+    clauses_sorted [] (c ∷ cs) m = absurd m
+    clauses_sorted (t ∷ ts) [] m = absurd m
+    clauses_sorted (t ∷ ts) (c ∷ cs) m =
+        and_from (is_sorted_clause sig (positions preds) c) (list_all (is_sorted_clause sig (positions preds)) cs) (clause_sorted (record { term = t; clause = c }) m.0) (clauses_sorted ts cs m.1)
+
+    pub made_sorted : AllByRecursion HasInts preds → (ts : List Term) (cs : List Clause) → AreMade preds ts cs → are_sorted sig preds cs ≡ true
+    made_sorted int_sorts ts cs m = and_from (positions_fit sig preds) (list_all (is_sorted_clause sig (positions preds)) cs) (int_positions_fit sig preds int_sorts) (clauses_sorted ts cs m)
 
   pub made_live : (ts : List Term) (cs : List Clause) → AreMade preds ts cs → uses_live preds cs ≡ true
   made_live [] [] m = refl
@@ -113,6 +133,23 @@ module _ (preds : List PredDecl) where
   made_longer [] (c ∷ cs) a m n = absurd m
   made_longer (t ∷ ts) [] a m n = absurd m
   made_longer (t ∷ ts) (c ∷ cs) a m n = (m.0, made_longer ts cs a m.1 n)
+
+-- as many assertions as clauses
+pub same_counts : (preds : List PredDecl) (ts : List Term) (cs : List Clause) → AreMade preds ts cs → length ts ≡ length cs
+same_counts preds [] [] m = refl
+same_counts preds [] (c ∷ cs) m = absurd m
+same_counts preds (t ∷ ts) [] m = absurd m
+same_counts preds (t ∷ ts) (c ∷ cs) m = ap suc (same_counts preds ts cs m.1)
+
+-- the assertion and the clause at a place were made together
+pub made-at : (preds : List PredDecl) (ts : List Term) (cs : List Clause) → AreMade preds ts cs → (k : ℕ) (t : Term) (c : Clause)
+    → slice_get ts k ≡ Some t → slice_get cs k ≡ Some c → IsMade preds (record { term = t; clause = c })
+made-at preds [] cs m k t c h i = absurd (none_not_some t h)
+made-at preds (s ∷ ts) [] m k t c h i = absurd m
+made-at preds (s ∷ ts) (b ∷ cs) m zero t c h i =
+    subst (λ (x : Term). IsMade preds (record { term = x; clause = c })) (some_same s t h)
+    (subst (λ (x : Clause). IsMade preds (record { term = s; clause = x })) (some_same b c i) m.0)
+made-at preds (s ∷ ts) (b ∷ cs) m (suc k) t c h i = made-at preds ts cs m.1 k t c h i
 
 -- no clauses are made over any predicates
 pub none_made : (preds others : List PredDecl) (ts : List Term) (cs : List Clause) → AreMade preds ts cs → length cs ≡ 0 → AreMade others ts cs

@@ -14,13 +14,14 @@ use Rattle.chc_sexpr.proofs.Folds.{TreeCases, tree_ind}
 use Rattle.chc_terms.specs.declared.term.Term.{Term}
 use Rattle.chc_terms.specs.declared.term.Term.TheVariants as term
 use Rattle.chc_terms.specs.Sorted.{Context, op_sort, sort_of, sorts_of, same_sorts, when, is_plain}
+use Rattle.chc_terms.proofs.SameSort.{same_sorts_itself}
 use Rattle.chc_terms.proofs.SortLaws.{sort_of-Var, sort_of-Num, sort_of-App, is_plain-Var, is_plain-Num, is_plain-App}
 use Rattle.chc_script.specs.Clauses.{ints}
 use Rattle.chc_script.specs.Made.{IsPlainOf}
 use Rattle.chc_script.specs.Readings.{◌>>=◌}
 use Rattle.chc_script.specs.Shapes.{is_symbol}
 use Rattle.chc_script.specs.Terms.{number_of, sum_of, group_term, term_of, terms_after, terms_of}
-use Rattle.chc_script.proofs.IntSorts.{ints-at, same_ints}
+use Rattle.chc_script.proofs.IntSorts.{ints-at}
 use Rattle.chc_script.proofs.Readings.{some_same, none_not_some, map_some, bind_some}
 use Rattle.chc_script.proofs.TermLaws.{term_of-Symbol, term_of-Word, term_of-Keyword, term_of-Numeral, term_of-Text, term_of-Other, term_of-Group}
 
@@ -37,7 +38,7 @@ module _ (n : ℕ) (o : Op) (result : Sort) (takes : (cx : Context) → op_sort 
 
 -- the sort of an operator that takes two of sort Int
 takes_ints : (s : Sort) → when (same_sorts (sort.Int ∷ sort.Int ∷ []) (sort.Int ∷ sort.Int ∷ [])) s ≡ Some s
-takes_ints s = ap (λ b. when b s) (same_ints 2)
+takes_ints s = ap (λ b. when b s) (same_sorts_itself (sort.Int ∷ sort.Int ∷ []))
 
 pub sum_over : (n : ℕ) (s t : Term) → IsPlainOf sort.Int n s → IsPlainOf sort.Int n t → IsPlainOf sort.Int n (term.App op.Add (s ∷ t ∷ []))
 sum_over n = binary_over n op.Add sort.Int (λ cx. takes_ints sort.Int)

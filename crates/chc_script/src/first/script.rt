@@ -4,7 +4,6 @@ ghost use Rattle.std.specs.Prelude.{◌≡◌, ◌<◌, ◌^◌, length, IfOk, I
 ghost use Rattle.chc_sorts.specs.Signature.{no_datatypes};
 ghost use Rattle.chc_sexpr.specs.Names.{AreNames};
 ghost use Rattle.chc_script.specs.Assertions.{KeepsAssertions};
-ghost use Rattle.chc_script.specs.Made.{AreMade};
 ghost use Rattle.chc_script.specs.Readings.{Gives};
 ghost use Rattle.chc_script.specs.Scripts.{IsFirstReading, closed, script_of};
 
@@ -33,7 +32,7 @@ fn close(alloc: Global, draft: Draft) -> Result<Option<Script>, NoMemory>
     ensures sig { IfOk result (λ read. IfSome read (λ script. script.state.sig ≡ no_datatypes)) }
     ensures named { IfOk result (λ read. IfSome read (λ script. length script.names ≡ length script.state.preds)) }
     ensures names { IfOk result (λ read. IfSome read (λ script. AreNames script.names)) }
-    ensures made { IfOk result (λ read. IfSome read (λ script. AreMade script.state.preds script.assertions script.state.clauses)) }
+    ensures assertions { IfOk result (λ read. IfSome read KeepsAssertions) }
 {
     let (stage, declared, assertions, clauses) = draft.into_parts();
     if !stage.is_checked() {
@@ -58,7 +57,7 @@ fn read_commands(alloc: Global, trees: &[Tree]) -> Result<Option<Script>, NoMemo
     ensures sig { IfOk result (λ read. IfSome read (λ script. script.state.sig ≡ no_datatypes)) }
     ensures named { IfOk result (λ read. IfSome read (λ script. length script.names ≡ length script.state.preds)) }
     ensures names { IfOk result (λ read. IfSome read (λ script. AreNames script.names)) }
-    ensures made { IfOk result (λ read. IfSome read (λ script. AreMade script.state.preds script.assertions script.state.clauses)) }
+    ensures assertions { IfOk result (λ read. IfSome read KeepsAssertions) }
 {
     let mut draft = Draft::new(alloc);
     for tree in trees {

@@ -1,11 +1,13 @@
 use Rattle.std.proofs.Common.{rules, ◌≡◌, true, List, sym, subst}
+use Rattle.std.specs.List.{AllByRecursion}
 use Rattle.chc_sorts.specs.Signature.{Signature}
 use Rattle.chc_terms.specs.declared.term.Term.{Term}
 use Rattle.chc_state.specs.declared.clause.Clause.{Clause}
 use Rattle.chc_state.specs.declared.clause.PredDecl.{PredDecl}
 use Rattle.chc_state.specs.Sorts.{are_sorted}
 use Rattle.chc_state.specs.States.{uses_live}
-use Rattle.chc_script.specs.Made.{AreMade}
+use Rattle.chc_script.specs.Clauses.{DeclaredView}
+use Rattle.chc_script.specs.Made.{AreMade, HasInts}
 use Rattle.chc_script.proofs.MadeLaws.{made_live, made_sorted}
 use Rattle.chc_script.proofs.first.script.close.Goals as goal
 
@@ -19,4 +21,5 @@ pub of_parts-state-requires-clause-sorted : goal.of_parts-state-requires-clause-
 of_parts-state-requires-clause-sorted c =
     let preds : c.args.draft.declared.preds ≡ c.into_parts-names.result.1 = search rules in
     let clauses : c.args.draft.clauses ≡ c.into_parts-stage.result.3 = search rules in
-    rw (sym preds, sym clauses) (made_sorted c.args.draft.declared.preds c.new.result c.args.draft.assertions c.args.draft.clauses c.into_parts-stage.ensures.made)
+    let int_sorts : AllByRecursion HasInts c.args.draft.declared.preds = subst (λ (v : DeclaredView). AllByRecursion HasInts v.preds) c.into_parts-stage.ensures.declared c.into_parts-names.ensures.ints in
+    rw (sym preds, sym clauses) (made_sorted c.args.draft.declared.preds c.new.result int_sorts c.args.draft.assertions c.args.draft.clauses c.into_parts-stage.ensures.made)
