@@ -1,5 +1,5 @@
 -- `HasAt` and `Stores`: at most one value, and always one, where the exceptions stand canonically.
-use Rattle.std.proofs.Common.{◌≡◌, ◌≢◌, ◌⊎◌, ℤ, List, [], ◌∷◌, Contains, inl, inr, refl, sym, ap, ◌∙◌, subst}
+use Rattle.std.proofs.Common.{◌≡◌, ℤ, inl, inr, sym, ap, ◌∙◌, subst}
 use Rattle.std.proofs.Math.IntN.{ℤ_discrete}
 use Rattle.std.specs.List.{AllByRecursion}
 use Rattle.chc_values.specs.declared.value.Value.{Value}
@@ -53,10 +53,14 @@ one_store default old i v new other a s t =
 pub some_store : (default : Value) (old : Exceptions) (i : ℤ) (v : Value) → Canonical default old → (new : Exceptions) × Stores default old i v new
 some_store default old i v c =
     let s = stored default old i v c in
-    let t = s.1 in
-    (s.0, (IsCanonical-from default s.0 t.canonical,
-      subst (HasAt default s.0 i) t.at_index (HasAt-found default s.0 i t.canonical.ascends),
-      λ j u n h. subst (HasAt default s.0 j) (t.at_others j (λ e. n (sym e)) ∙ sym (HasAt-is default old j u c.ascends h)) (HasAt-found default s.0 j t.canonical.ascends)))
+    let t = s.1 in (
+      s.0,
+      (
+        IsCanonical-from default s.0 t.canonical,
+        subst (HasAt default s.0 i) t.at_index (HasAt-found default s.0 i t.canonical.ascends),
+        λ j u n h. subst (HasAt default s.0 j) (t.at_others j (λ e. n (sym e)) ∙ sym (HasAt-is default old j u c.ascends h)) (HasAt-found default s.0 j t.canonical.ascends),
+      ),
+    )
 
 -- all that stands in the array after a store has what all before it had, and the new value
 pub stored_all : (P : Value → Type 0) (default : Value) (old : Exceptions) (i : ℤ) (v : Value) (new : Exceptions) → Ascends old → Stores default old i v new

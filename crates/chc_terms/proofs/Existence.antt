@@ -1,5 +1,5 @@
 -- A well-sorted term without quantifiers has a value, where its operators, predicates and definitions give one.
-use Rattle.std.proofs.Common.{◌≡◌, ◌⊎◌, ℕ, zero, suc, Bool, true, false, ◌&&◌, List, [], ◌∷◌, map, Option, Some, None, slice_get, inl, inr, refl, sym, ap, ◌∙◌, subst}
+use Rattle.std.proofs.Common.{◌≡◌, ◌⊎◌, ℕ, Bool, true, false, ◌&&◌, List, [], ◌∷◌, map, Some, inl, inr, refl, sym, ap, ◌∙◌, subst}
 use Rattle.std.specs.List.{AllByRecursion, list_all}
 use Rattle.std.proofs.lemmas.Bool.{false≢true}
 use Rattle.std.proofs.lemmas.Option.{none-some, same_Some}
@@ -7,14 +7,12 @@ use Rattle.chc_sorts.specs.declared.sort.Sort.{Sort}
 use Rattle.chc_sorts.specs.declared.sort.Sort.TheVariants as sort
 use Rattle.chc_sorts.specs.declared.op.Op.{Op}
 use Rattle.chc_sorts.specs.declared.op.Op.TheVariants as op
-use Rattle.chc_sorts.specs.Signature.{Signature}
 use Rattle.chc_values.specs.declared.value.Value.{Value}
 use Rattle.chc_values.specs.declared.value.Value.TheVariants as value
 use Rattle.chc_values.specs.declared.world.WorldEntry.{WorldEntry}
 use Rattle.chc_values.specs.Values.{IsOf, AreOf}
 use Rattle.chc_values.proofs.ValueSorts.{truth_value}
 use Rattle.chc_terms.specs.declared.term.Term.{Term}
-use Rattle.chc_terms.specs.declared.term.Term.TheVariants.{App, Pred, Call}
 use Rattle.chc_terms.specs.Has.{Meaning, Has, EachHas, AllHave, SomeHas, ChoiceHas, AppHas, Applies}
 use Rattle.chc_terms.specs.Sorted.{Context, sort_of, sorts_of, op_sort, are_truths, choice_sort, same_sort, is_unquantified}
 use Rattle.chc_terms.specs.Laws.{Means, AreTotal, IsTotal}
@@ -22,15 +20,10 @@ use Rattle.chc_terms.proofs.Induction.{TermCases, term_ind}
 use Rattle.chc_terms.proofs.HasLaws.{Has-Var, Has-Num, Has-Lit, Has-App, Has-Pred, Has-Call}
 use Rattle.chc_terms.proofs.SortLaws.{sort_of-Var, is_unquantified-App, is_unquantified-Pred, is_unquantified-Quant, is_unquantified-Call}
 use Rattle.chc_terms.proofs.SameSort.{same_from_test, both_true}
-use Rattle.chc_terms.proofs.SortSteps.{Sorts, sorts_of_more, app_sorts, pred_sorts, call_sorts}
+use Rattle.chc_terms.proofs.SortSteps.{sorts_of_more, app_sorts, pred_sorts, call_sorts}
 use Rattle.chc_terms.proofs.OperatorShapes.{OperatorsFit, OperatorsAnswer, IsStrict, when_some}
-use Rattle.chc_terms.proofs.Uniqueness.{AreSingle, IsSingle, term_single, terms_single}
-
-pub AreOf-some : (sig : Signature) (vs : List Value) (ss : List Sort) (i : ℕ) (s : Sort) → AreOf sig vs ss → slice_get ss i ≡ Some s → (v : Value) × (slice_get vs i ≡ Some v)
-AreOf-some sig vs [] i s a e = absurd (none-some s e)
-AreOf-some sig [] (t ∷ ts) i s a e = absurd a
-AreOf-some sig (v ∷ vs) (t ∷ ts) zero s a e = (v, refl)
-AreOf-some sig (v ∷ vs) (t ∷ ts) (suc i) s a e = AreOf-some sig vs ts i s a.1 e
+use Rattle.chc_terms.proofs.Variables.{AreOf-some}
+use Rattle.chc_terms.proofs.Uniqueness.{IsSingle, term_single, terms_single}
 
 truths_all : (sorts : List Sort) → are_truths sorts ≡ true → list_all (same_sort sort.Bool) sorts ≡ true
 truths_all [] h = absurd (false≢true h)

@@ -14,3 +14,7 @@ pub mod SortSteps
 pub mod Uniqueness
 pub mod Existence
 pub mod TermLaws
+pub mod Contexts
+pub mod ForOthers
+pub mod DatatypeOperators
+pub mod Variables

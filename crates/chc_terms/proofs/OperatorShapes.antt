@@ -1,5 +1,5 @@
 -- What the laws of an operator are, and what its sort says of its arguments' values.
-use Rattle.std.proofs.Common.{◌≡◌, ◌↔◌, ℕ, ℤ, Bool, true, false, ◌&&◌, cond, List, [], ◌∷◌, Option, Some, None, option_and_then, IsTrue, refl, sym, ap, ◌∙◌, subst}
+use Rattle.std.proofs.Common.{◌≡◌, ◌↔◌, ℤ, Bool, true, false, List, [], ◌∷◌, Option, Some, None, option_and_then, IsTrue, refl, sym, ap, ◌∙◌, subst}
 use Rattle.std.proofs.lemmas.Bool.{false≢true}
 use Rattle.std.proofs.lemmas.Option.{cond_some, same_Some, none-some}
 use Rattle.chc_sorts.specs.declared.sort.Sort.{Sort, Sort-F, out-Sort, roll-Sort, roll-out-Sort}
@@ -13,8 +13,8 @@ use Rattle.chc_values.specs.declared.world.WorldEntry.{WorldEntry}
 use Rattle.chc_values.specs.Values.{IsOf, AreOf}
 use Rattle.chc_values.proofs.ValueSorts.{IsOf-Bool, IsOf-Int, truth_value, integer_value}
 use Rattle.chc_terms.specs.Has.{Applies}
-use Rattle.chc_terms.specs.Sorted.{op_sort, when, same_sorts, same_sort, element_of, element_at}
-use Rattle.chc_terms.proofs.SameSort.{same_from_test, same_sorts_from_test}
+use Rattle.chc_terms.specs.Sorted.{op_sort, when, same_sorts, element_of, element_at}
+use Rattle.chc_terms.proofs.SameSort.{same_sorts_from_test}
 
 -- the operator gives at most one value, and one of its sort
 pub record OperatorFits (sig : Signature) (w : List WorldEntry) (o : Op) : Type 0 where

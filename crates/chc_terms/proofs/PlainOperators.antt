@@ -1,5 +1,5 @@
 -- The laws of Not, Eq and the operators on integers.
-use Rattle.std.proofs.Common.{◌≡◌, ◌≢◌, ◌⊎◌, ◌↔◌, ℤ, pos, ◌+ℤ◌, ◌-ℤ◌, ◌*ℤ◌, ◌≤ℤ◌, ◌<ℤ◌, Bool, true, false, not, List, [], ◌∷◌, Some, IsTrue, inl, inr, refl, sym, ap, ◌∙◌, subst, arith}
+use Rattle.std.proofs.Common.{◌≡◌, ◌≢◌, ◌⊎◌, ℤ, pos, ◌+ℤ◌, ◌-ℤ◌, ◌*ℤ◌, ◌≤ℤ◌, ◌<ℤ◌, not, List, [], ◌∷◌, Some, inl, inr, refl, sym, ap, ◌∙◌, subst, arith}
 use Rattle.std.proofs.lemmas.Int.{ints, by_lt_z}
 use Rattle.std.proofs.lemmas.Option.{none-some}
 use Rattle.std.proofs.Math.IntN.{ℤ_discrete}
@@ -10,13 +10,12 @@ use Rattle.chc_sorts.specs.Signature.{Signature}
 use Rattle.chc_values.specs.declared.value.Value.{Value}
 use Rattle.chc_values.specs.declared.value.Value.TheVariants as value
 use Rattle.chc_values.specs.declared.world.WorldEntry.{WorldEntry}
-use Rattle.chc_values.specs.Values.{AreOf}
 use Rattle.chc_values.specs.Worlds.{DividesByZero, LeavesByZero, KeysOnce}
 use Rattle.chc_values.proofs.Equality.{value_decided}
 use Rattle.chc_values.proofs.Lookups.{one_quotient_by_zero, some_quotient_by_zero, one_rest_by_zero, some_rest_by_zero}
 use Rattle.chc_terms.specs.Has.{Applies, Divides}
 use Rattle.chc_terms.specs.Sorted.{same_sorts, same_sort, equation_sort}
-use Rattle.chc_terms.proofs.Division.{one_division, some_division, Division}
+use Rattle.chc_terms.proofs.Division.{one_division, some_division}
 use Rattle.chc_terms.proofs.OperatorShapes.{OperatorFits, OperatorAnswers, when_some, same_truth, truth_of, bool_of, int_of, AreOf-two, two_integers, one_truth}
 
 le_decided : (a b : ℤ) → Dec (a ≤ℤ b)

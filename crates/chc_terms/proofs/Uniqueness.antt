@@ -1,7 +1,7 @@
 -- A well-sorted term has at most one value, and it is of the term's sort.
-use Rattle.std.proofs.Common.{◌≡◌, ◌⊎◌, ℕ, zero, suc, Bool, ◌&&◌, true, false, List, [], ◌∷◌, ◌++◌, Some, slice_get, inl, inr, refl, sym, ap, ◌∙◌, subst}
+use Rattle.std.proofs.Common.{◌≡◌, ◌⊎◌, ℕ, Bool, ◌&&◌, true, false, List, [], ◌∷◌, ◌++◌, Some, inl, inr, refl, sym, ap, ◌∙◌, subst}
 use Rattle.std.specs.List.{AllByRecursion}
-use Rattle.std.proofs.lemmas.Option.{none-some, same_Some}
+use Rattle.std.proofs.lemmas.Option.{same_Some}
 use Rattle.chc_sorts.specs.declared.sort.Sort.{Sort}
 use Rattle.chc_sorts.specs.declared.sort.Sort.TheVariants as sort
 use Rattle.chc_sorts.specs.declared.op.Op.{Op}
@@ -14,7 +14,7 @@ use Rattle.chc_values.specs.Values.{IsOf, AreOf}
 use Rattle.chc_terms.specs.declared.term.Kind.{Kind}
 use Rattle.chc_terms.specs.declared.term.Kind.TheVariants as kind
 use Rattle.chc_terms.specs.declared.term.Term.{Term}
-use Rattle.chc_terms.specs.declared.term.Term.TheVariants.{Var, Num, Lit, App, Pred, Quant, Call}
+use Rattle.chc_terms.specs.declared.term.Term.TheVariants.{Quant}
 use Rattle.chc_terms.specs.Has.{Meaning, Has, EachHas, AllHave, SomeHas, ChoiceHas, AppHas, QuantHas, Applies}
 use Rattle.chc_terms.specs.Sorted.{Context, sort_of, sorts_of, op_sort, are_truths, choice_sort, same_sort}
 use Rattle.chc_terms.specs.Laws.{Means, IsFunctional}
@@ -22,7 +22,8 @@ use Rattle.chc_terms.proofs.Induction.{TermCases, term_ind}
 use Rattle.chc_terms.proofs.HasLaws.{Has-Var, Has-Num, Has-Lit, Has-App, Has-Pred, Has-Quant, Has-Call}
 use Rattle.chc_terms.proofs.SortLaws.{sort_of-Var, sort_of-Num, sort_of-Lit}
 use Rattle.chc_terms.proofs.SameSort.{same_from_test, both_true}
-use Rattle.chc_terms.proofs.SortSteps.{Sorts, sorts_of_more, AppSorts, app_sorts, PredSorts, pred_sorts, CallSorts, call_sorts, quant_sorts}
+use Rattle.chc_terms.proofs.SortSteps.{Sorts, sorts_of_more, app_sorts, pred_sorts, call_sorts, quant_sorts}
+use Rattle.chc_terms.proofs.Variables.{AreOf-append, AreOf-get}
 use Rattle.chc_terms.proofs.OperatorShapes.{OperatorsFit, when_some, bool_of, int_of}
 
 -- P holds of at most one value, and of values of the sort alone
@@ -34,18 +35,6 @@ pub record IsSingle (sig : Signature) (P : Value → Type 0) (s : Sort) : Type 0
 pub record AreSingle (sig : Signature) (P : List Value → Type 0) (sorts : List Sort) : Type 0 where
   pub one : (us vs : List Value) → P us → P vs → us ≡ vs
   pub of : (vs : List Value) → P vs → AreOf sig vs sorts
-
-pub AreOf-append : (sig : Signature) (us vs : List Value) (ss ts : List Sort) → AreOf sig us ss → AreOf sig vs ts → AreOf sig (us ++ vs) (ss ++ ts)
-AreOf-append sig [] vs [] ts a b = b
-AreOf-append sig [] vs (s ∷ ss) ts a b = absurd a
-AreOf-append sig (u ∷ us) vs [] ts a b = absurd a
-AreOf-append sig (u ∷ us) vs (s ∷ ss) ts a b = (a.0, AreOf-append sig us vs ss ts a.1 b)
-
-pub AreOf-get : (sig : Signature) (vs : List Value) (ss : List Sort) (i : ℕ) (v : Value) (s : Sort) → AreOf sig vs ss → slice_get vs i ≡ Some v → slice_get ss i ≡ Some s → IsOf sig v s
-AreOf-get sig [] ss i v s a e f = absurd (none-some v e)
-AreOf-get sig (u ∷ us) [] i v s a e f = absurd (none-some s f)
-AreOf-get sig (u ∷ us) (t ∷ ts) zero v s a e f = subst (λ x. IsOf sig x s) (same_Some u v e) (subst (IsOf sig u) (same_Some t s f) a.0)
-AreOf-get sig (u ∷ us) (t ∷ ts) (suc i) v s a e f = AreOf-get sig us ts i v s a.1 e f
 
 different : value.Bool true ≡ value.Bool false → ⊥
 different e = cc
@@ -238,12 +227,12 @@ module _ (cx : Context) (w : List WorldEntry) (preds defs : Meaning) where
       of_pred = λ p ts f vars s h env a.
           let g = pred_sorts cx vars p ts s h in
           along (Has-Pred cx.sig w preds defs p ts env) (subst (IsSingle cx.sig (λ v. (vs : List Value) × EachHas holds ts env vs × preds p vs v)) g.result
-            (named preds p g.params sort.Bool (means.preds_fit p g.params g.declared) ts f vars g.each env a));
+          (named preds p g.params sort.Bool (means.preds_fit p g.params g.declared) ts f vars g.each env a));
       of_quant = λ k sorts t f vars s h env a. along (Has-Quant cx.sig w preds defs k sorts t env) (bound k sorts t f vars s h env a);
       of_call = λ k ts f vars s h env a.
           let g = call_sorts cx vars k ts s h in
           along (Has-Call cx.sig w preds defs k ts env) (subst (IsSingle cx.sig (λ v. (vs : List Value) × EachHas holds ts env vs × defs k vs v)) g.result
-            (named defs k g.definition.params g.definition.result (means.defs_fit k g.definition g.declared) ts f vars g.each env a));
+          (named defs k g.definition.params g.definition.result (means.defs_fit k g.definition g.declared) ts f vars g.each env a));
     }
 
     -- every term has at most one value, where its operators give at most one

@@ -4,3 +4,4 @@ pub mod ValueSorts
 pub mod Exceptions
 pub mod Storing
 pub mod Lookups
+pub mod Datatypes

@@ -1,6 +1,5 @@
 -- What a world says of division by zero: at most one number, and always one.
 use Rattle.std.proofs.Common.{◌≡◌, ◌⊎◌, ℤ, pos, List, [], ◌∷◌, All, Contains, inl, inr, refl, sym, ap, ◌∙◌, subst}
-use Rattle.std.specs.List.{AllByRecursion}
 use Rattle.std.proofs.Math.IntN.{ℤ_discrete}
 use Rattle.std.proofs.lemmas.List.Elements.{recursion_from_All}
 use Rattle.chc_values.specs.declared.world.WorldEntry.{WorldEntry}
@@ -12,20 +11,22 @@ use Rattle.chc_values.proofs.Membership.{In, In-from_contains, contains_from_In,
 not_again : (w : List WorldEntry) (e other : WorldEntry) → All (λ x. SameKey e x → ⊥) w → In w other → SameKey e other → ⊥
 not_again w e other a m k = all_at (λ x. SameKey e x → ⊥) w other (recursion_from_All (λ x. SameKey e x → ⊥) w a) m k
 
--- lines with one key are one line, where no key stands twice
-module _ (line : ℤ → ℤ → WorldEntry) (keyed : (m x y : ℤ) → SameKey (line m x) (line m y)) (result : (m x y : ℤ) → line m x ≡ line m y → x ≡ y) where
-  pub one_line : (w : List WorldEntry) (m x y : ℤ) → KeysOnce w → In w (line m x) → In w (line m y) → x ≡ y
+-- lines with one key have one result, where no key stands twice
+module _ (K R : Type 0) (line : K → R → WorldEntry) (keyed : (m : K) (x y : R) → SameKey (line m x) (line m y)) (result : (m : K) (x y : R) → line m x ≡ line m y → x ≡ y) where
+  pub one_line : (w : List WorldEntry) (m : K) (x y : R) → KeysOnce w → In w (line m x) → In w (line m y) → x ≡ y
   one_line [] m x y k i j = absurd i
   one_line (e ∷ w) m x y k (inl p) (inl q) = result m x y (sym p ∙ q)
   one_line (e ∷ w) m x y k (inl p) (inr j) = absurd (not_again w e (line m y) k.0 j (subst (λ z. SameKey z (line m y)) (sym p) (keyed m x y)))
   one_line (e ∷ w) m x y k (inr i) (inl q) = absurd (not_again w e (line m x) k.0 i (subst (λ z. SameKey z (line m x)) (sym q) (keyed m y x)))
   one_line (e ∷ w) m x y k (inr i) (inr j) = one_line w m x y k.1 i j
 
-  abbrev pub Reads : List WorldEntry → ℤ → ℤ → Type 0
+-- a number that a line says, or 0 where none does
+module _ (line : ℤ → ℤ → WorldEntry) (keyed : (m x y : ℤ) → SameKey (line m x) (line m y)) (result : (m x y : ℤ) → line m x ≡ line m y → x ≡ y) where
+  abbrev Reads : List WorldEntry → ℤ → ℤ → Type 0
   Reads w m r = Contains w (line m r) ⊎ (((x : ℤ) → Contains w (line m x) → ⊥) × (r ≡ pos 0))
 
-  pub one_read : (w : List WorldEntry) (m x y : ℤ) → KeysOnce w → Reads w m x → Reads w m y → x ≡ y
-  one_read w m x y k (inl p) (inl q) = one_line w m x y k (In-from_contains w (line m x) p) (In-from_contains w (line m y) q)
+  one_read : (w : List WorldEntry) (m x y : ℤ) → KeysOnce w → Reads w m x → Reads w m y → x ≡ y
+  one_read w m x y k (inl p) (inl q) = one_line ℤ ℤ line keyed result w m x y k (In-from_contains w (line m x) p) (In-from_contains w (line m y) q)
   one_read w m x y k (inl p) (inr q) = absurd (q.0 x p)
   one_read w m x y k (inr p) (inl q) = absurd (p.0 y q)
   one_read w m x y k (inr p) (inr q) = p.1 ∙ sym q.1
@@ -34,7 +35,7 @@ module _ (line : ℤ → ℤ → WorldEntry) (keyed : (m x y : ℤ) → SameKey 
   abbrev Searched : List WorldEntry → ℤ → Type 0
   Searched w m = ((x : ℤ) × In w (line m x)) ⊎ ((x : ℤ) → In w (line m x) → ⊥)
 
-  pub read_from : (w : List WorldEntry) (m : ℤ) → Searched w m → (r : ℤ) × Reads w m r
+  read_from : (w : List WorldEntry) (m : ℤ) → Searched w m → (r : ℤ) × Reads w m r
   read_from w m (inl s) = (s.0, inl (contains_from_In w (line m s.0) s.1))
   read_from w m (inr n) = (pos 0, inr ((λ x c. n x (In-from_contains w (line m x) c)), refl))
 
@@ -48,7 +49,7 @@ module _ (line : ℤ → ℤ → WorldEntry) (keyed : (m x y : ℤ) → SameKey 
         at (inr n) (inl s) = inl (s.0, inr s.1)
         at (inr n) (inr f) = inr (λ x. elim [ inl p ↦ n x p | inr i ↦ f x i ])
 
-    pub some_read : (w : List WorldEntry) (m : ℤ) → (r : ℤ) × Reads w m r
+    some_read : (w : List WorldEntry) (m : ℤ) → (r : ℤ) × Reads w m r
     some_read w m = read_from w m (search_line w m)
 
 Div0-result : (m x y : ℤ) → entry.Div0 m x ≡ entry.Div0 m y → x ≡ y

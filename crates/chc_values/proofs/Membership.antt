@@ -1,5 +1,5 @@
 -- Membership in a list by recursion, and `Contains`.
-use Rattle.std.proofs.Common.{◌≡◌, ◌⊎◌, ℕ, zero, suc, ◌<◌, List, [], ◌∷◌, length, get_or, Contains, All, inl, inr, arith, refl}
+use Rattle.std.proofs.Common.{◌≡◌, ◌⊎◌, ℕ, zero, suc, ◌<◌, List, [], ◌∷◌, length, get_or, Contains, inl, inr, arith, refl}
 use Rattle.std.specs.List.{AllByRecursion}
 
 module _ {X : Type 0} where

@@ -1,9 +1,9 @@
 -- The exceptions after a store: they are there, and stand canonically.
-use Rattle.std.proofs.Common.{◌≡◌, ◌≢◌, ℤ, ◌<ℤ◌, List, [], ◌∷◌, refl, sym, ap, ◌∙◌, subst}
+use Rattle.std.proofs.Common.{◌≡◌, ◌≢◌, ℤ, ◌<ℤ◌, [], ◌∷◌, refl, sym, ◌∙◌, subst}
 use Rattle.std.proofs.Math.IntN.{ℤ_discrete}
 use Rattle.chc_values.specs.declared.value.Value.{Value}
 use Rattle.chc_values.proofs.Equality.{value_decided}
-use Rattle.chc_values.proofs.Exceptions.{Exceptions, pick, pick-yes, pick-no, value_at, value_at-below, AreAbove, Ascends, NoDefaults, Canonical, Order, less, same, more, ordered, below_all, not_below_itself, here, elsewhere}
+use Rattle.chc_values.proofs.Exceptions.{Exceptions, pick, pick-yes, value_at, value_at-below, AreAbove, Ascends, NoDefaults, Canonical, Order, less, same, more, ordered, below_all, not_below_itself, here, elsewhere}
 
 put_by : {i j : ℤ} → Order i j → ℤ → Value → ℤ × Value → Exceptions → Exceptions → Exceptions
 put_by (less h) i v e es rest = (i, v) ∷ e ∷ es
@@ -120,7 +120,9 @@ pub stored : (default : Value) (old : Exceptions) (i : ℤ) (v : Value) → Cano
 stored default old i v h = at (value_decided v default)
   where
     at : Dec (v ≡ default) → (new : Exceptions) × Stored default old i v new
-    at (yes p) =
-        (without i old, stored_from default old i v (without i old)
-          (subst (λ u. Changes default i u old (without i old)) (sym p) (without_changes default i old h.ascends h.no_defaults)))
+    at (yes p) = (
+      without i old,
+      stored_from default old i v (without i old)
+          (subst (λ u. Changes default i u old (without i old)) (sym p) (without_changes default i old h.ascends h.no_defaults)),
+    )
     at (no n) = (put i v old, stored_from default old i v (put i v old) (put_changes default i v old n h.ascends h.no_defaults))

@@ -4,7 +4,7 @@ use Rattle.std.specs.List.{AllByRecursion}
 use Rattle.chc_sorts.specs.declared.sort.Sort.{Sort, Sort-F, out-Sort}
 use Rattle.chc_sorts.specs.declared.sort.Sort.TheVariants as sort
 use Rattle.chc_sorts.specs.Signature.{Signature}
-use Rattle.chc_values.specs.declared.value.Value.{Value, Value-F, out-Value, roll-Value, roll-out-Value, map-Value, rec-Value, rec-roll-Value}
+use Rattle.chc_values.specs.declared.value.Value.{Value, Value-F, out-Value, roll-Value, roll-out-Value, map-Value, rec-roll-Value}
 use Rattle.chc_values.specs.declared.value.Value.TheVariants as value
 use Rattle.chc_values.specs.Values.{HasFields, EachOf, IsCanonical, LevelOf, IsOf, AreOf}
 
@@ -30,22 +30,22 @@ LevelOf-map sig X f is_of (Value-F.Array x es) s =
     × IsCanonical (f x) (sym (map-id (map (λ (e : ℤ × X). (e.0, f e.1)) es)) i)
 
 -- the sorts differ
-Bool≢Int : sort.Bool ≡ sort.Int → ⊥
+pub Bool≢Int : sort.Bool ≡ sort.Int → ⊥
 Bool≢Int e = cc
 
-Bool≢Data : (d : ℕ) → sort.Bool ≡ sort.Data d → ⊥
+pub Bool≢Data : (d : ℕ) → sort.Bool ≡ sort.Data d → ⊥
 Bool≢Data d e = cc
 
-Int≢Data : (d : ℕ) → sort.Int ≡ sort.Data d → ⊥
+pub Int≢Data : (d : ℕ) → sort.Int ≡ sort.Data d → ⊥
 Int≢Data d e = cc
 
-Bool≢Array : (s : Sort) → sort.Bool ≡ sort.Array s → ⊥
+pub Bool≢Array : (s : Sort) → sort.Bool ≡ sort.Array s → ⊥
 Bool≢Array s e = let f : Sort-F.Bool ≡ Sort-F.Array s = sym sort.outs-Bool ∙ ap out-Sort e ∙ sort.outs-Array s in cc
 
-Int≢Array : (s : Sort) → sort.Int ≡ sort.Array s → ⊥
+pub Int≢Array : (s : Sort) → sort.Int ≡ sort.Array s → ⊥
 Int≢Array s e = let f : Sort-F.Int ≡ Sort-F.Array s = sym sort.outs-Int ∙ ap out-Sort e ∙ sort.outs-Array s in cc
 
-Data≢Array : (d : ℕ) (s : Sort) → sort.Data d ≡ sort.Array s → ⊥
+pub Data≢Array : (d : ℕ) (s : Sort) → sort.Data d ≡ sort.Array s → ⊥
 Data≢Array d s e = let f : Sort-F.Data d ≡ Sort-F.Array s = sym (sort.outs-Data d) ∙ ap out-Sort e ∙ sort.outs-Array s in cc
 
 -- arrays of one sort have elements of one sort
