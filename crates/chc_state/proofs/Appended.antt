@@ -1,7 +1,6 @@
 -- Definitions keep their meaning where others are appended.
-use Rattle.std.proofs.Common.{◌≡◌, ℕ, zero, suc, ◌<◌, ◌≤◌, List, [], ◌∷◌, ◌++◌, length, map, take, Option, Some, inl, inr, ◌⊎◌, refl, sym, ap, ◌∙◌, subst, arith, length-append}
+use Rattle.std.proofs.Common.{◌≡◌, ℕ, zero, suc, ◌≤◌, List, [], ◌∷◌, ◌++◌, length, map, Option, Some, inl, inr, ◌⊎◌, refl, sym, ap, ◌∙◌, subst, arith, length-append}
 use Rattle.std.specs.Prelude.{slice_get}
-use Rattle.chc_sorts.specs.declared.sort.Sort.{Sort}
 use Rattle.chc_sorts.specs.Signature.{Signature}
 use Rattle.chc_values.specs.declared.value.Value.{Value}
 use Rattle.chc_values.specs.declared.world.WorldEntry.{WorldEntry}
@@ -10,7 +9,6 @@ use Rattle.chc_terms.specs.Sorted.{sort_of}
 use Rattle.chc_state.specs.declared.defs.Def.{Def}
 use Rattle.chc_state.specs.Definitions.{CallMeans, IsDefinition, fun_sort}
 use Rattle.chc_state.proofs.Places.{element-at, at-longer, at-end, one_element, take-longer}
-use Rattle.chc_state.proofs.Defined.{CallMeans-below}
 
 module _ (sig : Signature) (w : List WorldEntry) where
   -- what is meant with one definition more

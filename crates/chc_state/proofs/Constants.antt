@@ -1,9 +1,8 @@
 -- The way back by constants: predicates that no definition defines become false everywhere, or true everywhere.
-use Rattle.std.proofs.Common.{◌≡◌, ◌≢◌, ℕ, zero, suc, ◌+◌, ◌<◌, Bool, true, false, not, ◌&&◌, ◌||◌, List, [], ◌∷◌, ◌++◌, length, set, map, Option, Some, None, inl, inr, ◌⊎◌, refl, sym, ap, ◌∙◌, subst, arith, length-set, add-zero}
+use Rattle.std.proofs.Common.{◌≡◌, ◌≢◌, ℕ, ◌+◌, ◌<◌, Bool, true, false, not, ◌&&◌, ◌||◌, List, [], ◌∷◌, ◌++◌, length, Some, inl, inr, refl, sym, ap, ◌∙◌, subst, arith, length-set}
 use Rattle.std.specs.Prelude.{slice_get, nat_eq, nat_lt}
-use Rattle.std.specs.List.{list_all, list_any, filter}
-use Rattle.std.proofs.lemmas.Bool.{cases_eq, cases_Bool, and_parts, and_from, or_left, or_from, false≢true, eq-eqb, ne_eqb, ltb-true, or_cases, or_parts, eqb-true}
-use Rattle.std.proofs.lemmas.Option.{slice_get_within}
+use Rattle.std.specs.List.{list_all}
+use Rattle.std.proofs.lemmas.Bool.{cases_Bool, and_parts, and_from, or_left, or_from, false≢true, eq-eqb, ne_eqb, ltb-true, or_cases, or_parts, eqb-true}
 use Rattle.chc_sorts.specs.declared.sort.Sort.{Sort, Sort-F, fold-Sort, fold-roll-Sort}
 use Rattle.chc_sorts.specs.declared.sort.Sort.TheVariants as sort
 use Rattle.chc_sorts.specs.Signature.{Signature}
@@ -25,7 +24,7 @@ use Rattle.chc_state.specs.Back.{or_none, constant, with_constant, with_constant
 use Rattle.chc_state.proofs.Members.{In-at, all-at}
 use Rattle.chc_state.proofs.Places.{at-map}
 use Rattle.chc_state.proofs.Retired.{length-retired, at-retired, retired-alike, retired-nothing, LiveAt, LiveAt-is_live}
-use Rattle.chc_state.proofs.Added.{added, StandInList, StandInList-added, from_other, to_other, from_same, to_same, DiffersAt, Defines-added}
+use Rattle.chc_state.proofs.Added.{StandInList, StandInList-added, from_other, to_other, from_same, to_same, Defines-added}
 
 -- Bool fits every signature
 Bool_fits : (sig : Signature) → sort_fits sig sort.Bool ≡ true
@@ -166,4 +165,3 @@ module _ (sig : Signature) (w : List WorldEntry) (sorts : List (List Sort)) (b :
       let def = constant (or_none (slice_get sorts p)) b in
       joined p ps d d' (with_constants sorts b ps d') q us (says_one p d stand here q us)
       (constants_say ps d' (StandInList-added d p def stand here) (ap (λ n. list_all (λ r. nat_lt r n) ps) (sym long) ∙ bs.1) q us)
-

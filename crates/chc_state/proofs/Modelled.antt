@@ -1,31 +1,20 @@
 -- From truth of clauses to truth of other clauses, by a transfer of interpretations.
-use Rattle.std.proofs.Common.{◌≡◌, ℕ, Bool, true, false, ◌&&◌, List, [], ◌∷◌, map, Option, Some, None, inl, inr, ◌⊎◌, refl, sym, ap, ◌∙◌, subst, option_map, option_and_then}
-use Rattle.std.specs.Prelude.{slice_get}
-use Rattle.std.specs.List.{AllByRecursion, list_all}
-use Rattle.std.proofs.lemmas.Bool.{and_parts, and_from, false≢true}
+use Rattle.std.proofs.Common.{◌≡◌, true, List, [], Option, Some, None, refl, sym, subst}
+use Rattle.std.specs.List.{list_all}
 use Rattle.chc_sorts.specs.declared.sort.Sort.{Sort}
 use Rattle.chc_sorts.specs.Signature.{Signature}
-use Rattle.chc_values.specs.declared.value.Value.{Value}
 use Rattle.chc_values.specs.declared.world.WorldEntry.{WorldEntry}
-use Rattle.chc_values.specs.Values.{AreOf}
 use Rattle.chc_values.specs.Worlds.{IsWorld}
-use Rattle.chc_terms.specs.declared.term.Term.{Term}
-use Rattle.chc_terms.specs.Has.{TermHas, EachHas, silent}
-use Rattle.chc_terms.specs.Sorted.{Context, sort_of, sorts_of, is_plain, is_unquantified}
-use Rattle.chc_terms.specs.Laws.{Means, AreTotal, OneValue, SomeValue}
-use Rattle.chc_terms.proofs.Induction.{TermCases, term_ind}
-use Rattle.chc_terms.proofs.SortLaws.{is_plain-App, is_plain-Pred, is_plain-Quant, is_plain-Call, is_unquantified-Var, is_unquantified-Num, is_unquantified-Lit, is_unquantified-App}
 use Rattle.chc_state.specs.declared.clause.Atom.{Atom}
 use Rattle.chc_state.specs.declared.clause.Clause.{Clause}
-use Rattle.chc_state.specs.States.{head_all}
-use Rattle.chc_state.specs.Sorts.{clause_context, are_sorts, is_condition, is_sorted_atom, is_sorted_clause}
-use Rattle.chc_state.specs.Meaning.{Interp, In, ArgsHave, AtomHolds, Fires, Next, Fails}
-use Rattle.chc_state.specs.Definitions.{HeadHolds, ClauseTrue, AllTrue}
-use Rattle.chc_state.proofs.Valued.{SortedArgs-head, args_once, args_valued}
+use Rattle.chc_state.specs.Sorts.{is_sorted_clause}
+use Rattle.chc_state.specs.Meaning.{Interp, AtomHolds, Fails}
+use Rattle.chc_state.specs.Definitions.{HeadHolds, AllTrue}
 use Rattle.chc_state.proofs.Members.{all-at}
 use Rattle.chc_state.proofs.Transfers.{Within, Closed, Transfer, Fires-within}
+use Rattle.chc_state.proofs.Valued.{SortedArgs-head, args_once, args_valued}
 
-module _ (sig : Signature) (w : List WorldEntry) (one : OneValue) (some : SomeValue) (world : IsWorld sig w) (none : sig.datatypes ≡ []) where
+module _ (sig : Signature) (w : List WorldEntry) (world : IsWorld sig w) (none : sig.datatypes ≡ []) where
   -- where clauses are true, what they conclude holds
   pub Closed-true : (preds : List (List Sort)) (cs : List Clause) → list_all (is_sorted_clause sig preds) cs ≡ true → (J : Interp) → AllTrue sig w J cs → Closed sig w cs J
   Closed-true preds cs sorted J holds p us n = says (subst (HeadHolds sig w J n.env) n.concludes (holds n.clause n.stands n.env n.fires))
@@ -33,7 +22,7 @@ module _ (sig : Signature) (w : List WorldEntry) (one : OneValue) (some : SomeVa
       says : AtomHolds sig w J n.env n.head → J p us
       says h =
           let args = SortedArgs-head sig preds n.clause n.head (all-at (is_sorted_clause sig preds) n.clause cs sorted n.stands) n.concludes in
-          let same : h.0 ≡ us = args_once sig w one some world none n.clause.vars n.env n.fires.sorted n.head.args args.each h.0 us h.1 n.gives in
+          let same : h.0 ≡ us = args_once sig w world none n.clause.vars n.env n.fires.sorted n.head.args args h.0 us h.1 n.gives in
           subst (λ q. J q us) n.on (subst (λ vs. J n.head.pred vs) same h.2)
 
   -- and no query fires
@@ -53,7 +42,7 @@ module _ (sig : Signature) (w : List WorldEntry) (one : OneValue) (some : SomeVa
       at_head None e = absurd (no_failure new J holds (moved.1 (record { clause = c; env = env; stands = stands; query = e; fires = fires })))
       at_head (Some head) e =
           let args = SortedArgs-head sig preds c head (all-at (is_sorted_clause sig preds) c cs sorted stands) e in
-          let values = args_valued sig w one some world none c.vars env fires.sorted head.args args.plain args.each in
+          let values = args_valued sig w world none c.vars env fires.sorted head.args args in
           let says : T J head.pred values.0 = moved.0 head.pred values.0 (record {
             clause = c;
             head = head;

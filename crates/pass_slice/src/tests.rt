@@ -1,6 +1,6 @@
 //! Small states, with what is found in them and what is left.
 
-ghost use Rattle.std.specs.Prelude.{◌≡◌, Option};
+ghost use Rattle.std.specs.Prelude.{◌≡◌, Option, nat_lt};
 ghost use Rattle.std.specs.List.{list_all};
 ghost use Rattle.chc_state.specs.States.{on_live, head_all, uses_live};
 ghost use Rattle.pass_slice.specs.Bare.{is_bare_atom, is_bare_clause, is_bare_decl, are_bare};
@@ -70,11 +70,12 @@ fn atoms_are_on_live(preds: &[PredDecl], atoms: &[Atom]) -> bool
 }
 
 /// Whether every clause uses live predicates alone.
-fn all_use_live(preds: &[PredDecl], clauses: &[Clause]) -> bool
+fn all_use_live(preds: &List<PredDecl>, clauses: &List<Clause>) -> bool
     ensures { result ≡ uses_live preds.now clauses.now }
 {
-    clauses.iter().all(|c| atoms_are_on_live(preds, c.body.as_slice())
-        && head_is_on_live(preds, &c.head))
+    let decls = preds.as_slice();
+    clauses.as_slice().iter().all(|c| atoms_are_on_live(decls, c.body.as_slice())
+        && head_is_on_live(decls, &c.head))
 }
 
 /// Whether the atom has no arguments.
@@ -105,7 +106,9 @@ fn head_is_bare(head: &Option<Atom>) -> bool
 fn clauses_are_bare(clauses: &[Clause]) -> bool
     ensures { result ≡ list_all is_bare_clause clauses.now }
 {
-    clauses.iter().all(|c| c.conj.len() == 0 && are_bare(c.body.as_slice()) && head_is_bare(&c.head))
+    clauses.iter().all(|c| c.conj.len() == 0
+        && are_bare(c.body.as_slice())
+        && head_is_bare(&c.head))
 }
 
 /// Whether the predicates have no positions.
@@ -116,10 +119,10 @@ fn preds_are_bare(preds: &[PredDecl]) -> bool
 }
 
 /// Whether no predicate has positions, and no clause conjuncts or arguments.
-fn all_are_bare(preds: &[PredDecl], clauses: &[Clause]) -> bool
+fn all_are_bare(preds: &List<PredDecl>, clauses: &List<Clause>) -> bool
     ensures { result ≡ are_bare preds.now clauses.now }
 {
-    preds_are_bare(preds) && clauses_are_bare(clauses)
+    preds_are_bare(preds.as_slice()) && clauses_are_bare(clauses.as_slice())
 }
 
 /// As many predicates without positions, all live.
@@ -137,9 +140,7 @@ fn state(alloc: Global, preds: List<PredDecl>, clauses: List<Clause>) -> Option<
     if preds.len() >= 1_000_000 || over(&preds, &clauses).is_some() {
         return None;
     }
-    if all_use_live(preds.as_slice(), clauses.as_slice())
-        && all_are_bare(preds.as_slice(), clauses.as_slice())
-    {
+    if all_use_live(&preds, &clauses) && all_are_bare(&preds, &clauses) {
         Some(State::of_parts(Sig::new(alloc), preds, clauses))
     } else {
         None
@@ -330,9 +331,23 @@ fn choices_are_legal_or_not(rt: HostRuntime) -> Result<(), Fail> {
         (Kind::Unreached, b"ab ba c -ac", &[0, 1], true),
     ];
     for (i, (kind, text, numbers, legal)) in rows.iter().enumerate() {
-        assert_eq!(rt; legal_in(alloc, *kind, text, numbers)?, Some(*legal), "at {i}");
+        assert_eq!(rt;
+            legal_in(alloc, *kind, text, numbers)?,
+            Some(*legal),
+            "at {i}"
+        );
     }
     Ok(())
+}
+
+/// The state after the step that removes unneeded predicates, if it is legal.
+fn without_unneeded(alloc: Global, s: State, ps: &List<u32>) -> Result<Option<State>, NoMemory> {
+    let legal = unneeded::legal(alloc, &s, ps)?;
+    if !legal {
+        return Ok(None);
+    }
+    let s = unneeded::apply(alloc, s, ps)?;
+    Ok(Some(s))
 }
 
 #[test]
@@ -340,7 +355,7 @@ fn what_is_gone_goes_once(rt: HostRuntime) -> Result<(), Fail> {
     let alloc = rt.alloc();
     let s = small(alloc, SLICED)?.expect(&rt, "a state");
     let ps = list_of(alloc, &[1])?;
-    let s = unneeded::apply(alloc, s, &ps)?;
+    let s = without_unneeded(alloc, s, &ps)?.expect(&rt, "a legal step");
     assert!(rt; !is_legal(alloc, Kind::Unneeded, &s, &[1])?);
     assert!(rt; is_legal(alloc, Kind::Unreached, &s, &[2])?);
     Ok(())
@@ -401,17 +416,24 @@ fn pairs(alloc: Global) -> Result<List<PredDecl>, NoMemory> {
     Ok(preds)
 }
 
-/// The definitions before the step of the kind that removed a and d, where b had one.
-fn back_over(alloc: Global, kind: Kind) -> Result<Defs, NoMemory> {
+/// Whether the numbers are all below the count.
+fn are_below(numbers: &List<u32>, count: usize) -> bool
+    ensures { result ≡ list_all (λ p. nat_lt p count) numbers.now }
+{
+    numbers.as_slice().iter().all(|p| (*p as usize) < count)
+}
+
+/// The definitions before the step of the kind that removed these predicates, if all of them have a place.
+fn back_over(alloc: Global, kind: Kind, ps: &List<u32>, d: Defs) -> Result<Option<Defs>, NoMemory> {
     let preds = pairs(alloc)?;
-    let mut ps = List::new(alloc);
-    ps.push(0)?;
-    ps.push(3)?;
-    let d = one_defined(alloc)?;
-    match kind {
-        Kind::Unreached => unreached::back_defs(alloc, &preds, &ps, d),
-        Kind::Unneeded => unneeded::back_defs(alloc, &preds, &ps, d),
+    if !are_below(ps, d.of.len()) {
+        return Ok(None);
     }
+    let before = match kind {
+        Kind::Unreached => unreached::back_defs(alloc, &preds, ps, d)?,
+        Kind::Unneeded => unneeded::back_defs(alloc, &preds, ps, d)?,
+    };
+    Ok(Some(before))
 }
 
 #[test]
@@ -419,7 +441,9 @@ fn removed_predicates_are_constants(rt: HostRuntime) -> Result<(), Fail> {
     let alloc = rt.alloc();
     let rows = [(Kind::Unreached, false), (Kind::Unneeded, true)];
     for (kind, truth) in rows {
-        let d = back_over(alloc, kind)?;
+        let ps = list_of(alloc, &[0, 3])?;
+        let before = back_over(alloc, kind, &ps, one_defined(alloc)?)?;
+        let d = before.expect(&rt, "definitions");
         assert_eq!(rt; d.list.len(), 3);
         assert_eq!(rt; told_of(&d, 0), Some((1, (2, Some(truth)))));
         assert_eq!(rt; told_of(&d, 1), Some((0, (2, None))));

@@ -11,4 +11,4 @@ returns-clause-leads c =
     let sorts = positions c.args.preds.now in
     subst (λ (e : Defs). StepLeadsBack sorts (step.Unreached c.args.ps.now) c.args.d e)
     (ap (λ (ps : List ℕ). back sorts (step.Unreached ps) c.args.d) (sym c.as_slice.ensures) ∙ sym c.in_ok-defs.ensures)
-    (leads_back ? ? sorts (step.Unreached c.args.ps.now) c.args.d)
+    (leads_back sorts (step.Unreached c.args.ps.now) c.args.d)
