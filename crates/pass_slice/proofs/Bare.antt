@@ -1,5 +1,5 @@
 -- Clauses without terms are well sorted.
-use Rattle.std.proofs.Common.{◌≡◌, ℕ, Bool, true, false, ◌&&◌, List, [], ◌∷◌, length, map, Option, Some, None, refl, sym, ap, ◌∙◌, subst, arith}
+use Rattle.std.proofs.Common.{◌≡◌, true, ◌&&◌, List, [], ◌∷◌, length, Option, Some, None, refl, ap, ◌∙◌, arith}
 use Rattle.std.specs.Prelude.{nat_eq, slice_get}
 use Rattle.std.specs.List.{list_all}
 use Rattle.std.proofs.lemmas.Bool.{and_parts, and_from, eqb-true}
@@ -14,7 +14,7 @@ use Rattle.chc_state.specs.States.{is_live, on_live, head_all, uses_live}
 use Rattle.chc_state.specs.Sorts.{clause_context, are_sorts, positions, positions_fit, is_condition, is_sorted_atom, is_sorted_clause, are_sorted}
 use Rattle.chc_state.proofs.Members.{In-at, all-at, all-from}
 use Rattle.chc_state.proofs.Places.{at-map}
-use Rattle.chc_state.proofs.Retired.{LiveAt, LiveAt-is_live}
+use Rattle.chc_state.proofs.Retired.{LiveAt-is_live}
 use Rattle.pass_slice.specs.Bare.{is_bare_atom, is_bare_clause, is_bare_decl, are_bare}
 
 empty : {X : Type 0} (xs : List X) → nat_eq (length xs) 0 ≡ true → xs ≡ []

@@ -1,29 +1,26 @@
 -- Both kinds of steps have a way back of definitions.
-use Rattle.std.proofs.Common.{◌≡◌, ℕ, Bool, true, false, not, List, [], length, inl, inr, refl, sym, ap, ◌∙◌, subst}
-use Rattle.std.specs.Prelude.{nat_lt}
-use Rattle.std.specs.List.{filter, list_all}
+use Rattle.std.proofs.Common.{◌≡◌, ℕ, Bool, true, false, List, [], length, inl, inr, refl, sym, ◌∙◌, subst}
+use Rattle.std.specs.List.{list_all}
 use Rattle.std.proofs.lemmas.Bool.{and_parts, cases_Bool, false≢true}
 use Rattle.chc_sorts.specs.declared.sort.Sort.{Sort}
 use Rattle.chc_values.specs.declared.value.Value.{Value}
 use Rattle.chc_values.specs.declared.world.WorldEntry.{WorldEntry}
 use Rattle.chc_values.specs.Worlds.{IsWorld}
-use Rattle.chc_state.specs.declared.clause.Clause.{Clause}
 use Rattle.chc_state.specs.declared.defs.Defs.{Defs}
 use Rattle.chc_state.specs.declared.step.Step.{Step}
 use Rattle.chc_state.specs.declared.step.Step.TheVariants as step
 use Rattle.chc_state.specs.States.{StateView, is_live}
 use Rattle.chc_state.specs.Sorts.{positions, positions_fit, is_sorted_clause, are_sorted}
-use Rattle.chc_state.specs.Meaning.{Interp}
-use Rattle.chc_state.specs.Steps.{PredSet, set_of, body_meets, head_meets, after, IsLegal}
+use Rattle.chc_state.specs.Steps.{set_of, after, IsLegal}
 use Rattle.chc_state.specs.Definitions.{Says, Defines, Holds}
 use Rattle.chc_state.specs.Back.{with_constants, back, LeadsBack, StepLeadsBack}
 use Rattle.chc_state.proofs.Transfers.{Within}
 use Rattle.chc_state.proofs.Modelled.{modelled, AllTrue-same}
 use Rattle.chc_state.proofs.Added.{StandInList-defined}
-use Rattle.chc_state.proofs.Constants.{SaysBack, but, constants_define, constants_say}
+use Rattle.chc_state.proofs.Constants.{SaysBack, constants_define, constants_say}
 use Rattle.pass_slice.proofs.Answering.{avoiding, granting, unreached, unneeded}
 use Rattle.pass_slice.proofs.Bounding.{live_inside}
-use Rattle.pass_slice.proofs.Removing.{are_sorted-after, positions-after}
+use Rattle.pass_slice.proofs.Removing.{are_sorted-after}
 use Rattle.pass_slice.proofs.Taking.{length-after}
 
 -- a state's clauses are well sorted, and fit
@@ -71,7 +68,7 @@ module _ (s : StateView) (ps : List ℕ) (d : Defs) (none : s.sig.datatypes ≡ 
   leads_unreached legal defines =
       record {
         defines = constants_define s false (sorted_parts s sorted).0 ps d legal.ascending legal.live
-        (record { entries = defines.entries; each = defines.each; apart = defines.apart; definitions = defines.definitions });
+            (record { entries = defines.entries; each = defines.each; apart = defines.apart; definitions = defines.definitions });
         keeps = keeps;
       }
     where
@@ -81,16 +78,16 @@ module _ (s : StateView) (ps : List ℕ) (d : Defs) (none : s.sig.datatypes ≡ 
           let says = said (step.Unreached ps) false defines legal.live w in
           record {
             holds = AllTrue-same s.sig w (Says s.sig w e) (avoiding s.sig w s.clauses (set_of ps) (Says s.sig w d)) (into_avoiding w e says) (out_avoiding w e says) s.clauses
-            (modelled s.sig w world none (positions s.preds) (positions (after s (step.Unreached ps)).preds) s.clauses (after s (step.Unreached ps)).clauses
-            (avoiding s.sig w s.clauses (set_of ps)) (unreached s.sig w s.clauses (set_of ps) legal.meets) (sorted_parts s sorted).1 (sorted_after (step.Unreached ps))
-            (Says s.sig w d) holds.holds);
+                (modelled s.sig w world none (positions s.preds) (positions (after s (step.Unreached ps)).preds) s.clauses (after s (step.Unreached ps)).clauses
+                (avoiding s.sig w s.clauses (set_of ps)) (unreached s.sig w s.clauses (set_of ps) legal.meets) (sorted_parts s sorted).1 (sorted_after (step.Unreached ps))
+                (Says s.sig w d) holds.holds);
           }
 
   leads_unneeded : IsLegal s (step.Unneeded ps) → Defines d (after s (step.Unneeded ps)) → LeadsBack s d (with_constants (positions s.preds) true ps d) (after s (step.Unneeded ps))
   leads_unneeded legal defines =
       record {
         defines = constants_define s true (sorted_parts s sorted).0 ps d legal.ascending legal.live
-        (record { entries = defines.entries; each = defines.each; apart = defines.apart; definitions = defines.definitions });
+            (record { entries = defines.entries; each = defines.each; apart = defines.apart; definitions = defines.definitions });
         keeps = keeps;
       }
     where
@@ -100,9 +97,9 @@ module _ (s : StateView) (ps : List ℕ) (d : Defs) (none : s.sig.datatypes ≡ 
           let says = said (step.Unneeded ps) true defines legal.live w in
           record {
             holds = AllTrue-same s.sig w (Says s.sig w e) (granting s.sig w s.clauses (set_of ps) (Says s.sig w d)) (into_granting w e says) (out_granting w e says) s.clauses
-            (modelled s.sig w world none (positions s.preds) (positions (after s (step.Unneeded ps)).preds) s.clauses (after s (step.Unneeded ps)).clauses
-            (granting s.sig w s.clauses (set_of ps)) (unneeded s.sig w s.clauses (set_of ps) legal.meets) (sorted_parts s sorted).1 (sorted_after (step.Unneeded ps))
-            (Says s.sig w d) holds.holds);
+                (modelled s.sig w world none (positions s.preds) (positions (after s (step.Unneeded ps)).preds) s.clauses (after s (step.Unneeded ps)).clauses
+                (granting s.sig w s.clauses (set_of ps)) (unneeded s.sig w s.clauses (set_of ps) legal.meets) (sorted_parts s sorted).1 (sorted_after (step.Unneeded ps))
+                (Says s.sig w d) holds.holds);
           }
 
 -- the way back leads from definitions after the step to definitions before it

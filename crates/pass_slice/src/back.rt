@@ -43,7 +43,11 @@ fn with_constant(
     let Defs { mut list, mut of } = d;
     let number = list.len() as u64;
     let body = Term::Lit(truth);
-    list.push(Def { params, result: Sort::Bool, body })?;
+    list.push(Def {
+        params,
+        result: Sort::Bool,
+        body,
+    })?;
     of.replace(p as usize, Some(number));
     Ok(Defs { list, of })
 }

@@ -74,10 +74,8 @@ fn all_use_live(preds: &List<PredDecl>, clauses: &List<Clause>) -> bool
     ensures { result ≡ uses_live preds.now clauses.now }
 {
     let decls = preds.as_slice();
-    clauses
-        .as_slice()
-        .iter()
-        .all(|c| atoms_are_on_live(decls, c.body.as_slice()) && head_is_on_live(decls, &c.head))
+    clauses.as_slice().iter().all(|c| atoms_are_on_live(decls, c.body.as_slice())
+        && head_is_on_live(decls, &c.head))
 }
 
 /// Whether the atom has no arguments.
@@ -108,7 +106,9 @@ fn head_is_bare(head: &Option<Atom>) -> bool
 fn clauses_are_bare(clauses: &[Clause]) -> bool
     ensures { result ≡ list_all is_bare_clause clauses.now }
 {
-    clauses.iter().all(|c| c.conj.len() == 0 && are_bare(c.body.as_slice()) && head_is_bare(&c.head))
+    clauses.iter().all(|c| c.conj.len() == 0
+        && are_bare(c.body.as_slice())
+        && head_is_bare(&c.head))
 }
 
 /// Whether the predicates have no positions.
@@ -331,9 +331,23 @@ fn choices_are_legal_or_not(rt: HostRuntime) -> Result<(), Fail> {
         (Kind::Unreached, b"ab ba c -ac", &[0, 1], true),
     ];
     for (i, (kind, text, numbers, legal)) in rows.iter().enumerate() {
-        assert_eq!(rt; legal_in(alloc, *kind, text, numbers)?, Some(*legal), "at {i}");
+        assert_eq!(rt;
+            legal_in(alloc, *kind, text, numbers)?,
+            Some(*legal),
+            "at {i}"
+        );
     }
     Ok(())
+}
+
+/// The state after the step that removes unneeded predicates, if it is legal.
+fn without_unneeded(alloc: Global, s: State, ps: &List<u32>) -> Result<Option<State>, NoMemory> {
+    let legal = unneeded::legal(alloc, &s, ps)?;
+    if !legal {
+        return Ok(None);
+    }
+    let s = unneeded::apply(alloc, s, ps)?;
+    Ok(Some(s))
 }
 
 #[test]
@@ -341,7 +355,7 @@ fn what_is_gone_goes_once(rt: HostRuntime) -> Result<(), Fail> {
     let alloc = rt.alloc();
     let s = small(alloc, SLICED)?.expect(&rt, "a state");
     let ps = list_of(alloc, &[1])?;
-    let s = unneeded::apply(alloc, s, &ps)?;
+    let s = without_unneeded(alloc, s, &ps)?.expect(&rt, "a legal step");
     assert!(rt; !is_legal(alloc, Kind::Unneeded, &s, &[1])?);
     assert!(rt; is_legal(alloc, Kind::Unreached, &s, &[2])?);
     Ok(())
@@ -410,12 +424,7 @@ fn are_below(numbers: &List<u32>, count: usize) -> bool
 }
 
 /// The definitions before the step of the kind that removed these predicates, if all of them have a place.
-fn back_over(
-    alloc: Global,
-    kind: Kind,
-    ps: &List<u32>,
-    d: Defs,
-) -> Result<Option<Defs>, NoMemory> {
+fn back_over(alloc: Global, kind: Kind, ps: &List<u32>, d: Defs) -> Result<Option<Defs>, NoMemory> {
     let preds = pairs(alloc)?;
     if !are_below(ps, d.of.len()) {
         return Ok(None);

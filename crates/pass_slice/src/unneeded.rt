@@ -201,10 +201,8 @@ fn is_met(table: &[bool], s: &State) -> bool
     ensures meets { result ≡ is_unneeded s.now.clauses (marked table.now) }
     ensures within { first_passed s.now.preds s.now.clauses ≡ None }
 {
-    s.clauses()
-        .as_slice()
-        .iter()
-        .all(|c| sets::head_is_marked(table, c) || !sets::body_is_marked(table, c))
+    s.clauses().as_slice().iter().all(|c| sets::head_is_marked(table, c)
+        || !sets::body_is_marked(table, c))
 }
 
 /// The definitions before a step that removed these predicates, from definitions after it: each of them is
