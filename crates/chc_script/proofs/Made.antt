@@ -14,8 +14,8 @@ use Rattle.chc_state.specs.declared.clause.Atom.{Atom}
 use Rattle.chc_state.specs.declared.clause.PredDecl.{PredDecl}
 use Rattle.chc_script.specs.Clauses.{DeclaredView, ints, decl_takes, takes, applied_of, atom_on, atom_of, operands_at, constraint_or, part_of, parts_after, parts_of, conjuncts_of, head_of, assertion_of, implication_at, matrix_at, matrix_of, assertion_at, assertion, variables_of, forall_of}
 use Rattle.chc_script.specs.Made.{IsPlainOf, HasInts, IsAtomOver, IsPartOver, IsHeadOver, IsMade}
-use Rattle.chc_script.specs.Readings.{◌>>=◌}
-use Rattle.chc_script.specs.Shapes.{is_symbol, pair_of}
+use Rattle.chc_sexpr.specs.Readings.{◌>>=◌}
+use Rattle.chc_sexpr.specs.Shapes.{is_symbol, pair_of}
 use Rattle.chc_script.specs.Terms.{number_of, term_of, terms_after, terms_of}
 use Rattle.chc_script.specs.declared.first.build.Assertion.{Assertion}
 use Rattle.chc_script.specs.declared.first.premise.Part.{Part}

@@ -17,7 +17,7 @@ use Rattle.chc_terms.proofs.SameSort.{same_sorts_itself}
 use Rattle.chc_terms.proofs.SortLaws.{sort_of-Var, sort_of-Num, sort_of-App, is_plain-Var, is_plain-Num, is_plain-App}
 use Rattle.chc_script.specs.Clauses.{ints}
 use Rattle.chc_script.specs.Made.{IsPlainOf}
-use Rattle.chc_script.specs.Shapes.{is_symbol}
+use Rattle.chc_sexpr.specs.Shapes.{is_symbol}
 use Rattle.chc_script.specs.Terms.{number_of, sum_of, group_term, term_of, terms_after, terms_of}
 use Rattle.chc_script.proofs.Ints.{ints-at}
 use Rattle.chc_script.proofs.Readings.{some_same, none_not_some, map_some, bind_some}

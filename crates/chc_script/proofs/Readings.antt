@@ -1,7 +1,7 @@
 -- What a reading that gave something was made of.
 use Rattle.std.proofs.Common.{◌≡◌, Bool, true, false, cond, Option, Some, None, refl}
 use Rattle.std.specs.Option.{option_map}
-use Rattle.chc_script.specs.Readings.{◌>>=◌}
+use Rattle.chc_sexpr.specs.Readings.{◌>>=◌}
 
 pub some_same : {A : Type 0} (x y : A) → Some x ≡ Some y → x ≡ y
 some_same x y h = cc

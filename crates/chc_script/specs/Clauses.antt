@@ -14,8 +14,8 @@ use Rattle.chc_state.specs.declared.clause.Atom.{Atom}
 use Rattle.chc_state.specs.declared.clause.Clause.{Clause}
 use Rattle.chc_state.specs.declared.clause.PredDecl.{PredDecl}
 use Rattle.chc_script.specs.Names.{has_name, is_fixed}
-use Rattle.chc_script.specs.Readings.{◌>>=◌}
-use Rattle.chc_script.specs.Shapes.{symbol_of, group_of, is_symbol, is_word, form_of, pair_of}
+use Rattle.chc_sexpr.specs.Readings.{◌>>=◌}
+use Rattle.chc_sexpr.specs.Shapes.{symbol_of, group_of, is_symbol, is_word, form_of, pair_of}
 use Rattle.chc_script.specs.Terms.{most_variables, number_of, term_of, terms_of}
 use Rattle.chc_script.specs.declared.first.premise.Part.{Part}
 use Rattle.chc_script.specs.declared.first.premise.Part.TheVariants as part

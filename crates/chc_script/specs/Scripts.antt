@@ -12,8 +12,8 @@ use Rattle.chc_state.specs.declared.clause.Clause.{Clause}
 use Rattle.chc_state.specs.Limits.{first_passed}
 use Rattle.chc_script.specs.Clauses.{DeclaredView, most_predicates, no_predicates, with_predicate, assertion}
 use Rattle.chc_script.specs.Names.{has_name, is_fixed}
-use Rattle.chc_script.specs.Readings.{◌>>=◌}
-use Rattle.chc_script.specs.Shapes.{symbol_of, group_of, is_symbol, form_of}
+use Rattle.chc_sexpr.specs.Readings.{◌>>=◌}
+use Rattle.chc_sexpr.specs.Shapes.{symbol_of, group_of, is_symbol, form_of}
 use Rattle.chc_script.specs.declared.first.build.Assertion.{Assertion}
 use Rattle.chc_script.specs.declared.first.script.Script.{Script}
 use Rattle.chc_script.specs.declared.first.draft.Stage.{Stage}

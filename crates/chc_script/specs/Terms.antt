@@ -8,8 +8,8 @@ use Rattle.chc_sexpr.specs.declared.tree.Tree.{Tree, para-Tree}
 use Rattle.chc_sexpr.specs.declared.tree.Tree.TheOpen.{Tree-F}
 use Rattle.chc_terms.specs.declared.term.Term.{Term}
 use Rattle.chc_terms.specs.declared.term.Term.TheVariants as term
-use Rattle.chc_script.specs.Readings.{◌>>=◌}
-use Rattle.chc_script.specs.Shapes.{is_symbol}
+use Rattle.chc_sexpr.specs.Readings.{◌>>=◌}
+use Rattle.chc_sexpr.specs.Shapes.{is_symbol}
 
 -- how many variables a clause may have at most
 abbrev pub most_variables : ℕ

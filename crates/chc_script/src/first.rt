@@ -7,7 +7,6 @@ mod draft;
 mod names;
 mod premise;
 mod script;
-mod shape;
 mod term;
 
 pub use script::{Names, Script, read_first};

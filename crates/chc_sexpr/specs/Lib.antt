@@ -5,3 +5,5 @@ pub mod Scanning
 pub mod Spelling
 pub mod Tokens
 pub mod Trees
+pub mod Readings
+pub mod Shapes

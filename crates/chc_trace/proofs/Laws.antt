@@ -15,7 +15,9 @@ use Rattle.chc_sexpr.specs.declared.tree.Tree.TheVariants.{Symbol, Numeral, Text
 use Rattle.chc_state.specs.declared.step.Step.{Step}
 use Rattle.chc_state.specs.declared.step.Step.TheVariants as step
 use Rattle.chc_trace.specs.declared.trace.Trace.{Trace}
-use Rattle.chc_trace.specs.Readings.{Gives, names, is_symbol, string_in, only_string, number_in, number_of, numbers_after, behind, form_in, form_of, is_one, is_first, is_mark, if_written, digest_of, string_of_form, source_of, target_of, step_of_kind, step_in, step_of, steps_after, trace_of}
+use Rattle.chc_sexpr.specs.Readings.{Gives}
+use Rattle.chc_sexpr.specs.Shapes.{symbol_at, is_name, is_symbol}
+use Rattle.chc_trace.specs.Readings.{string_in, only_string, number_in, number_of, numbers_after, behind, form_in, form_of, is_one, is_first, is_mark, if_written, digest_of, string_of_form, source_of, target_of, step_of_kind, step_in, step_of, steps_after, trace_of}
 use Rattle.chc_trace.specs.Traces.{AreNumbers, IsForm, IsStepOf, IsStepTree, AreTarget, AreSteps, IsMark, IsDigest, IsSource, AreTraceOf, IsTraceOfTrees}
 
 -- ---- options
@@ -39,7 +41,7 @@ of_level t u e = sym (roll-out-Tree t) ∙ e
 
 -- ---- symbols
 
-symbol_at_level : (name : List ℕ) (level : Tree-F Tree) → names name level ≡ true → (place : ℕ) × (roll-Tree level ≡ Symbol place name)
+symbol_at_level : (name : List ℕ) (level : Tree-F Tree) → is_name name (symbol_at level) ≡ true → (place : ℕ) × (roll-Tree level ≡ Symbol place name)
 symbol_at_level name (Tree-F.Symbol place other) h = (place, rolls-Symbol place other ∙ ap (Symbol place) ((bytes_eq-Decides other name).0 h))
 symbol_at_level name (Tree-F.Word place word) h = absurd (false≢true h)
 symbol_at_level name (Tree-F.Keyword place word) h = absurd (false≢true h)
@@ -54,7 +56,7 @@ symbol_from_test name t h = let s = symbol_at_level name (out-Tree t) h in (s.0,
 
 -- the test of a symbol is that of its name
 test_of_symbol : (name : List ℕ) (place : ℕ) (other : List ℕ) → is_symbol name (Symbol place other) ≡ bytes_eq other name
-test_of_symbol name place other = ap (names name) (outs-Symbol place other)
+test_of_symbol name place other = ap (λ level. is_name name (symbol_at level)) (outs-Symbol place other)
 
 symbol_passes : (name : List ℕ) (place : ℕ) → is_symbol name (Symbol place name) ≡ true
 symbol_passes name place = test_of_symbol name place name ∙ (bytes_eq-Decides name name).1 refl

@@ -1,39 +1,15 @@
 -- What the trees of a trace are read as, part by part.
-use Rattle.std.specs.Prelude.{◌≡◌, ◌^◌, ◌==◌, ℕ, pos, negsuc, nat_lt, Bool, false, List, [], ◌∷◌, ◌++◌, if◌then◌else◌, codes, Option, Some, None, Result, Ok, Err, ⊤}
-use Rattle.std.specs.Option.{option_and_then}
+use Rattle.std.specs.Prelude.{◌≡◌, ◌^◌, ◌==◌, ℕ, pos, negsuc, nat_lt, Bool, false, List, [], ◌∷◌, ◌++◌, if◌then◌else◌, codes, Option, Some, None, Result, Ok, Err}
 use Rattle.std.specs.Str.{bytes_eq}
 use Rattle.hex.specs.Hex.{encode_lower, decode_sized}
 use Rattle.hex.specs.declared.error.FromHexError.{FromHexError}
-use Rattle.chc_sorts.specs.declared.memory.NoMemory.{NoMemory}
 use Rattle.chc_sexpr.specs.declared.tree.Tree.{Tree, out-Tree}
 use Rattle.chc_sexpr.specs.declared.tree.Tree.TheOpen.{Tree-F}
+use Rattle.chc_sexpr.specs.Readings.{◌>>=◌}
+use Rattle.chc_sexpr.specs.Shapes.{is_symbol}
 use Rattle.chc_state.specs.declared.step.Step.{Step}
 use Rattle.chc_state.specs.declared.step.Step.TheVariants as step
 use Rattle.chc_trace.specs.declared.trace.Trace.{Trace}
-
--- the answer is the reading, or memory was refused
-abbrev pub Gives : {A : Type 0} → Result (Option A) NoMemory → Option A → Type 0
-Gives (Ok answer) reading = answer ≡ reading
-Gives (Err refused) reading = ⊤
-
--- what is read from what was read first, where that was read
-infixl 10 ◌>>=◌
-abbrev pub ◌>>=◌ : {A B : Type 0} → Option A → (A → Option B) → Option B
-first >>= next = option_and_then next first
-
--- whether a level is the symbol of that name
-abbrev pub names : List ℕ → Tree-F Tree → Bool
-names name (Tree-F.Symbol place other) = bytes_eq other name
-names name (Tree-F.Word place word) = false
-names name (Tree-F.Keyword place word) = false
-names name (Tree-F.Numeral place number) = false
-names name (Tree-F.Text place bytes) = false
-names name (Tree-F.Other place token) = false
-names name (Tree-F.Group place trees) = false
-
--- whether the tree is the symbol of that name
-abbrev pub is_symbol : List ℕ → Tree → Bool
-is_symbol name tree = names name (out-Tree tree)
 
 -- the bytes of a level that is a string
 abbrev pub string_in : Tree-F Tree → Option (List ℕ)

@@ -2,13 +2,14 @@
 
 ghost use Rattle.std.specs.Prelude.{◌≡◌, ◌<◌, ◌^◌, [], length, codes, IfOk};
 ghost use Rattle.std.specs.Option.{option_copied};
-ghost use Rattle.chc_trace.specs.Readings.{Gives, is_mark, digest_of, source_of, numbers_after, step_of_kind, step_in, step_of, steps_after, trace_of};
+ghost use Rattle.chc_sexpr.specs.Readings.{Gives};
+ghost use Rattle.chc_trace.specs.Readings.{is_mark, digest_of, source_of, numbers_after, step_of_kind, step_in, step_of, steps_after, trace_of};
 ghost use Rattle.chc_trace.specs.Traces.{IsTraceOfTrees, IsTraceReading};
 
-use crate::shape::{form_of, is_symbol, number_of, string_of_form};
+use crate::shape::{form_of, number_of, string_of_form};
 use crate::text::hex_digits;
 use crate::trace::Trace;
-use chc_sexpr::{TextErr, Tree, read_trees};
+use chc_sexpr::{TextErr, Tree, is_symbol, read_trees};
 use chc_sorts::{List, NoMemory};
 use chc_source::ByteText;
 use chc_state::Step;

@@ -2,19 +2,9 @@
 
 ghost use Rattle.std.specs.Prelude.{◌≡◌};
 ghost use Rattle.std.specs.Option.{option_copied};
-ghost use Rattle.chc_trace.specs.Readings.{is_symbol, only_string, number_of, behind, form_of, string_of_form};
+ghost use Rattle.chc_trace.specs.Readings.{only_string, number_of, behind, form_of, string_of_form};
 
-use chc_sexpr::Tree;
-
-/// Whether the tree is the symbol of that name.
-pub fn is_symbol(tree: &Tree, name: &[u8]) -> bool
-    ensures { result ≡ is_symbol name.now tree.now }
-{
-    match tree {
-        Tree::Symbol(_, other) => other.bytes() == name,
-        _ => false,
-    }
-}
+use chc_sexpr::{Tree, is_symbol};
 
 /// The bytes of one tree that is a string.
 fn only_string(trees: &[Tree]) -> Option<&[u8]>

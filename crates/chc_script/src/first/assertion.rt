@@ -3,15 +3,14 @@
 ghost use Rattle.std.specs.Prelude.{◌≡◌, ◌<◌, ◌≤◌, None, Some, false, [], length, option_copied, MatchOption, IfOk, IfSome};
 ghost use Rattle.chc_script.specs.Clauses.{assertion, binder_of, conjuncts_of, forall_of, head_of, implication_at, matrix_of, may_bind, parts_of, variable_of, variables_after, variables_of};
 ghost use Rattle.chc_script.specs.Names.{has_name};
-ghost use Rattle.chc_script.specs.Readings.{Gives};
+ghost use Rattle.chc_sexpr.specs.Readings.{Gives};
 ghost use Rattle.chc_script.specs.Terms.{most_variables};
 
 use crate::first::build::{Assertion, assertion_of};
 use crate::first::declared::Declared;
 use crate::first::names::{NameTable, is_fixed};
 use crate::first::premise::{read_atom, read_premise};
-use crate::first::shape::{group_of, is_symbol, is_word, pair_of, symbol_of};
-use chc_sexpr::Tree;
+use chc_sexpr::{Tree, group_of, is_symbol, is_word, pair_of, symbol_of};
 use chc_sorts::{List, NoMemory};
 use chc_state::Atom;
 use std::alloc::Global;

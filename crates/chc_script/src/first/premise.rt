@@ -2,14 +2,13 @@
 
 ghost use Rattle.std.specs.Prelude.{◌≡◌, ◌<◌, ◌≤◌, ◌^◌, None, Some, length, MatchOption};
 ghost use Rattle.chc_script.specs.Clauses.{applied_of, atom_of, atom_on, conjuncts_of, constraint_on, part_of, parts_of};
-ghost use Rattle.chc_script.specs.Readings.{Gives};
+ghost use Rattle.chc_sexpr.specs.Readings.{Gives};
 ghost use Rattle.chc_script.specs.Terms.{most_variables};
 
 use crate::first::declared::Declared;
 use crate::first::names::NameTable;
-use crate::first::shape::{form_of, pair_of, symbol_of};
 use crate::first::term::{binary_term, read_term, read_terms};
-use chc_sexpr::Tree;
+use chc_sexpr::{Tree, form_of, pair_of, symbol_of};
 use chc_sorts::{List, NoMemory, Op};
 use chc_state::Atom;
 use chc_terms::Term;

@@ -4,7 +4,7 @@ ghost use Rattle.std.specs.Prelude.{◌≡◌, ◌<◌, ◌^◌, length, IfOk, I
 ghost use Rattle.chc_sorts.specs.Signature.{no_datatypes};
 ghost use Rattle.chc_sexpr.specs.Names.{AreNames};
 ghost use Rattle.chc_script.specs.Assertions.{KeepsAssertions};
-ghost use Rattle.chc_script.specs.Readings.{Gives};
+ghost use Rattle.chc_sexpr.specs.Readings.{Gives};
 ghost use Rattle.chc_script.specs.Scripts.{IsFirstReading, closed, script_of};
 
 use crate::first::draft::Draft;

@@ -3,12 +3,11 @@
 ghost use Rattle.std.specs.Prelude.{◌≡◌, ◌≤◌, [], ◌∷◌, length, map, IfOk};
 ghost use Rattle.chc_sorts.specs.declared.op.Op.TheVariants.{Add};
 ghost use Rattle.chc_terms.specs.declared.term.Term.TheVariants.{App};
-ghost use Rattle.chc_script.specs.Readings.{Gives};
+ghost use Rattle.chc_sexpr.specs.Readings.{Gives};
 ghost use Rattle.chc_script.specs.Terms.{most_variables, group_term, term_of, terms_of};
 
 use crate::first::names::NameTable;
-use crate::first::shape::is_symbol;
-use chc_sexpr::Tree;
+use chc_sexpr::{Tree, is_symbol};
 use chc_sorts::{List, NoMemory, Op};
 use chc_terms::Term;
 use std::alloc::Global;

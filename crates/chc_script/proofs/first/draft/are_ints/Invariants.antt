@@ -1,6 +1,6 @@
 use Rattle.std.proofs.Common.{◌≡◌, drop, codes}
 use Rattle.std.specs.List.{list_all}
-use Rattle.chc_script.specs.Shapes.{is_symbol}
+use Rattle.chc_sexpr.specs.Shapes.{is_symbol}
 use Rattle.chc_script.proofs.first.draft.are_ints.Given as goal
 
 abbrev pub invariant-loop-tree : goal.invariant-loop-tree

@@ -1,6 +1,6 @@
 use Rattle.std.proofs.Common.{◌≡◌, List, map, ap, sym, subst, ◌∙◌}
 use Rattle.chc_sexpr.specs.declared.tree.Tree.{Tree}
-use Rattle.chc_script.specs.Readings.{Gives}
+use Rattle.chc_sexpr.specs.Readings.{Gives}
 use Rattle.chc_script.specs.Terms.{group_term, term_of}
 use Rattle.chc_script.proofs.TermLaws.{term_of-Group}
 use Rattle.chc_script.proofs.first.term.+term.Goals as goal

@@ -1,9 +1,9 @@
 //! The shapes of trees.
 
 ghost use Rattle.std.specs.Prelude.{◌≡◌, None, Some, option_copied, MatchOption};
-ghost use Rattle.chc_script.specs.Shapes.{symbol_of, word_of, group_of, is_symbol, is_word, form_of, pair_of};
+ghost use Rattle.chc_sexpr.specs.Shapes.{symbol_of, word_of, group_of, is_symbol, is_word, form_of, pair_of};
 
-use chc_sexpr::Tree;
+use crate::tree::Tree;
 
 /// The name of a symbol.
 pub fn symbol_of(tree: &Tree) -> Option<&[u8]>
