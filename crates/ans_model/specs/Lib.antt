@@ -1,1 +1,5 @@
+pub mod Bodies
 pub mod Models
+pub mod Readings
+pub mod Scopes
+pub mod Shapes
