@@ -1,7 +1,11 @@
 //! Model answers: definitions of predicates, read and written.
 #![tactic(auto)]
 
+mod names;
 mod read;
+mod scope;
+mod shape;
+mod sorts;
 mod text;
 mod typed;
 

@@ -1,0 +1,4 @@
+pub mod Apart
+pub mod Scoping
+pub mod SortTests
+pub mod Tables
