@@ -2,3 +2,4 @@ pub mod Apart
 pub mod Scoping
 pub mod SortTests
 pub mod Tables
+pub mod TypedLaws

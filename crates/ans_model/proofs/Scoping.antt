@@ -168,3 +168,13 @@ variable-last fs n f name some within e =
 
 pub length-last : (fs : List (List Binder)) (n : ℕ) (f : List Binder) → 0 < n → n ≤ length fs → f ≡ get_or fs (n - 1) f → length (flat (take n fs)) ≡ length (flat (take (n - 1) fs)) + length f
 length-last fs n f some within e = ap (λ l. length l) (flat-last fs n f some within e) ∙ length-append (flat (take (n - 1) fs)) f
+
+-- the first lists have no more variables than all
+pub length-first : (fs : List (List Binder)) (n : ℕ) → length (flat (take n fs)) ≤ length (flat fs)
+length-first fs zero = omega arith
+length-first [] (suc n) = omega arith
+length-first (f ∷ fs) (suc n) =
+    let rest = length-first fs n in
+    let some = length-append f (flat (take n fs)) in
+    let all = length-append f (flat fs) in
+    omega arith

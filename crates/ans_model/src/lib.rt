@@ -1,6 +1,7 @@
 //! Model answers: definitions of predicates, read and written.
 #![tactic(auto)]
 
+mod body;
 mod names;
 mod read;
 mod scope;
