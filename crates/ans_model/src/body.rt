@@ -1,16 +1,16 @@
 //! Terms from trees.
 
-ghost use Rattle.std.specs.Prelude.{◌≡◌, ◌<◌, ◌^◌, ◌+◌, ◌∷◌, [], Some, IsTrue, IfOk, IfSome, OnOk, length, drop, map};
+ghost use Rattle.std.specs.Prelude.{◌≡◌, ◌<◌, ◌^◌, ◌+◌, ◌++◌, ◌∷◌, [], List, Some, IsTrue, IfOk, IfSome, OnOk, length, drop, map};
 ghost use Rattle.std.specs.List.{list_all};
 ghost use Rattle.std.specs.Option.{option_map};
 ghost use Rattle.chc_sorts.specs.declared.sort.Sort.TheVariants.{Bool as sort_bool, Int as sort_int};
 ghost use Rattle.chc_sorts.specs.declared.op.Op.TheVariants.{Sub as op_sub};
 ghost use Rattle.chc_terms.specs.Sorted.{are_truths, equation_sort, quantifier_sort, same_sort, same_sorts, when};
-ghost use Rattle.ans_model.specs.Bodies.{applied, beside, group_term, is_read_op, kind_of, literal_of, negated, negation, number, op_named, operation, quantification, quantified, quantified_under, is_minus, sort_on, symbol_term, typed_all, typed_of};
-ghost use Rattle.ans_model.specs.Counts.{count, count_all};
+ghost use Rattle.ans_model.specs.Bodies.{applied, beside, group_term, is_read_op, kind_of, literal_of, negated, negation, number, op_named, operation, quantification, quantified, quantified_over, quantified_under, is_negation, sort_on, symbol_term, typed_all, typed_of};
+ghost use Rattle.ans_model.specs.Counts.{count, count_all, HasRoom};
 ghost use Rattle.ans_model.specs.Heads.{group_under, IsReadHead};
 ghost use Rattle.ans_model.specs.Readings.{Gives};
-ghost use Rattle.ans_model.specs.Scopes.{flat, sorts_in};
+ghost use Rattle.ans_model.specs.Scopes.{Binder, flat, sorts_in};
 ghost use Rattle.ans_model.specs.Shapes.{numeral_of, numeral_value};
 
 use crate::scope::{Binders, innermost, read_binders};
@@ -233,16 +233,15 @@ fn negated(alloc: Global, term: Typed) -> Result<Option<Typed>, NoMemory>
 fn quantified(
     alloc: Global,
     kind: Kind,
-    binders: Binders,
+    sorts: List<Sort>,
     body: Typed,
 ) -> Result<Option<Typed>, NoMemory>
-    ensures { Gives result (quantified kind binders body) }
+    ensures { Gives result (quantified_over kind sorts body) }
 {
-    if binders.len() == 0 || !same_sort(&body.sort, &Sort::Bool) {
+    if sorts.len() == 0 || !same_sort(&body.sort, &Sort::Bool) {
         return Ok(None);
     }
     let Typed { term, sort: _ } = body;
-    let sorts = binders.into_sorts();
     Ok(Some(Typed {
         term: Term::Quant(kind, sorts, Boxed::new(alloc, term)?),
         sort: Sort::Bool,
@@ -257,11 +256,14 @@ fn read_numeral(n: i128) -> Option<Typed>
     Some(number(n))
 }
 
-/// Whether the operator is `-`.
-fn is_minus(op: &Op) -> bool
-    ensures { result ≡ is_minus op.now }
+/// Whether the operator is `-`, and there is one tree behind the first one.
+fn is_negation(op: &Op, trees: &[Tree]) -> bool
+    ensures { result ≡ is_negation op.now (length trees.now) }
 {
-    matches!(op, Op::Sub)
+    match op {
+        Op::Sub => trees.len() == 2,
+        _ => false,
+    }
 }
 
 /// What the first tree of a group says of the group.
@@ -273,7 +275,7 @@ enum Head {
 
 /// What the first tree of these says of them as a group.
 fn head_of(trees: &[Tree]) -> Head
-    ensures value { group_term (beside trees.now) ≡ group_under result (beside (drop 1 trees.now)) }
+    ensures value { (scope : List Binder) → group_term (beside trees.now) scope ≡ group_under result (beside (drop 1 trees.now)) scope }
     ensures read { IsReadHead result }
 {
     let Some(head) = trees.first() else {
@@ -294,6 +296,13 @@ fn head_of(trees: &[Tree]) -> Head
     }
 }
 
+/// Leaves the innermost list of binders.
+fn leave(scope: &mut List<Binders>)
+    ensures { (outer : List (List Binder)) (last : List Binder) → scope.old ≡ outer ++ last ∷ [] → scope.new ≡ outer }
+{
+    let _left = scope.pop();
+}
+
 /// A quantifier over these variables on the term of the tree.
 #[cycle(typed)]
 fn read_under(
@@ -303,15 +312,17 @@ fn read_under(
     binders: Binders,
     body: &Tree,
 ) -> Result<Option<Typed>, NoMemory>
-    requires { length (flat scope.old) + length binders + count body.now < 2 ^ 32 }
+    requires room { HasRoom (length (flat scope.old) + length binders) (count body.now) }
     ensures value { Gives result (quantified_under kind binders body.now (flat scope.old)) }
     ensures kept { OnOk result (scope.new ≡ scope.old) }
 {
+    let sorts = copy_sorts(alloc, binders.sorts())?;
     scope.push(binders)?;
     let body = read_typed(alloc, scope, body)?;
-    match (scope.pop(), body) {
-        (Some(binders), Some(body)) => quantified(alloc, kind, binders, body),
-        (_, _) => Ok(None),
+    leave(scope);
+    match body {
+        Some(body) => quantified(alloc, kind, sorts, body),
+        None => Ok(None),
     }
 }
 
@@ -323,7 +334,7 @@ pub fn read_typed(
     scope: &mut List<Binders>,
     tree: &Tree,
 ) -> Result<Option<Typed>, NoMemory>
-    requires { length (flat scope.old) + count tree.now < 2 ^ 32 }
+    requires room { HasRoom (length (flat scope.old)) (count tree.now) }
     ensures value { Gives result (typed_of tree.now (flat scope.old)) }
     ensures kept { OnOk result (scope.new ≡ scope.old) }
 {
@@ -343,7 +354,7 @@ fn read_group(
     scope: &mut List<Binders>,
     trees: &[Tree],
 ) -> Result<Option<Typed>, NoMemory>
-    requires { length (flat scope.old) + count_all trees.now < 2 ^ 32 }
+    requires room { HasRoom (length (flat scope.old)) (count_all trees.now) }
     ensures value { Gives result (group_term (beside trees.now) (flat scope.old)) }
     ensures kept { OnOk result (scope.new ≡ scope.old) }
 {
@@ -363,11 +374,11 @@ fn read_operation(
     trees: &[Tree],
 ) -> Result<Option<Typed>, NoMemory>
     requires read { IsTrue (is_read_op op) }
-    requires room { length (flat scope.old) + count_all trees.now < 2 ^ 32 }
+    requires room { HasRoom (length (flat scope.old)) (count_all trees.now) }
     ensures value { Gives result (operation op (beside (drop 1 trees.now)) (flat scope.old)) }
     ensures kept { OnOk result (scope.new ≡ scope.old) }
 {
-    if is_minus(&op) && trees.len() == 2 {
+    if is_negation(&op, trees) {
         return read_negation(alloc, scope, trees);
     }
     match read_args(alloc, scope, trees)? {
@@ -383,7 +394,7 @@ fn read_args(
     scope: &mut List<Binders>,
     trees: &[Tree],
 ) -> Result<Option<List<Typed>>, NoMemory>
-    requires { length (flat scope.old) + count_all trees.now < 2 ^ 32 }
+    requires room { HasRoom (length (flat scope.old)) (count_all trees.now) }
     ensures value { Gives result (typed_all (drop 1 trees.now) (flat scope.old)) }
     ensures kept { OnOk result (scope.new ≡ scope.old) }
 {
@@ -405,7 +416,7 @@ fn read_negation(
     trees: &[Tree],
 ) -> Result<Option<Typed>, NoMemory>
     requires two { length trees.now ≡ 2 }
-    requires room { length (flat scope.old) + count_all trees.now < 2 ^ 32 }
+    requires room { HasRoom (length (flat scope.old)) (count_all trees.now) }
     ensures value { Gives result (operation op_sub (beside (drop 1 trees.now)) (flat scope.old)) }
     ensures kept { OnOk result (scope.new ≡ scope.old) }
 {
@@ -427,7 +438,7 @@ fn read_quantification(
     kind: Kind,
     trees: &[Tree],
 ) -> Result<Option<Typed>, NoMemory>
-    requires { length (flat scope.old) + count_all trees.now < 2 ^ 32 }
+    requires room { HasRoom (length (flat scope.old)) (count_all trees.now) }
     ensures value { Gives result (quantification kind (beside (drop 1 trees.now)) (flat scope.old)) }
     ensures kept { OnOk result (scope.new ≡ scope.old) }
 {
