@@ -1,8 +1,12 @@
+pub mod Blanks
 pub mod Decimals
+pub mod Depths
 pub mod Folds
-pub mod Growth
-pub mod Nesting
-pub mod Once
-pub mod Plainness
-pub mod Refusals
+pub mod Heads
+pub mod Moves
 pub mod Runs
+pub mod Scans
+pub mod Spelled
+pub mod Stands
+pub mod Steps
+pub mod Strings
