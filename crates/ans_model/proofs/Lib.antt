@@ -1,7 +1,11 @@
 pub mod Apart
+pub mod Entries
+pub mod Lengths
+pub mod Outcomes
 pub mod Reading
 pub mod Room
 pub mod Scoping
+pub mod Sorting
 pub mod SortTests
 pub mod Tables
 pub mod TypedLaws
