@@ -105,7 +105,7 @@ takes sig (op.Get d c i) sorts s r h = cc
 takes sig (op.Is d c) sorts s r h = cc
 
 -- the sorts that are read fit, and can be written
-sort_good : (sig : Signature) (s : Sort) → is_answer_sort s ≡ true → sort_fits sig s ≡ true
+pub sort_good : (sig : Signature) (s : Sort) → is_answer_sort s ≡ true → sort_fits sig s ≡ true
 sort_good sig s h = by_case (or_true (same_sort s sort.Int) (same_sort s sort.Bool) h)
   where
     int_fits : sort_fits sig sort.Int ≡ true
