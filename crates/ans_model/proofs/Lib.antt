@@ -1,0 +1,12 @@
+pub mod Apart
+pub mod Entries
+pub mod Lengths
+pub mod Outcomes
+pub mod Reading
+pub mod Room
+pub mod Scoping
+pub mod Sorting
+pub mod Sound
+pub mod SortTests
+pub mod Tables
+pub mod TypedLaws
