@@ -7,6 +7,7 @@ use Rattle.chc_state.specs.declared.defs.Def.{Def}
 use Rattle.chc_state.specs.declared.defs.Defs.{Defs}
 use Rattle.chc_state.specs.States.{StateView}
 use Rattle.chc_state.specs.Definitions.{Defines}
+pub use Rattle.ans_model.specs.Texts.{IsDefsText}
 
 -- the bytes say the definitions, of the state's live predicates, which have these names
 pub record SaysModel (bytes : List ℕ) (s : StateView) (names : List (List ℕ)) (d : Defs) : Type 0 where
@@ -23,7 +24,3 @@ IsModelReading bytes s names (Err refused) = ⊤
 -- every definition is some predicate's, and its body can be written in an answer that is read
 pub record IsAnswer (d : Defs) : Type 0 where
   pub owned : (k : ℕ) → k < length d.list → (p : ℕ) × (slice_get d.of p ≡ Some (Some k))
-
--- the text is that of the definitions, of predicates of these names
-abbrev pub IsDefsText : Defs → StateView → List (List ℕ) → List ℕ → Type 0
-IsDefsText d s names text = text ≡ text
