@@ -1,1 +1,8 @@
 pub mod CountLaws
+pub mod Induction
+pub mod HasLaws
+pub mod SortLaws
+pub mod Meanings
+pub mod SameSort
+pub mod Division
+pub mod Arrays
