@@ -6,3 +6,4 @@ pub mod Once
 pub mod Plainness
 pub mod Refusals
 pub mod Runs
+pub mod Written
