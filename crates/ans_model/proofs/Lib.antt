@@ -4,3 +4,7 @@ pub mod WrittenScopes
 pub mod WrittenNames
 pub mod WrittenTrees
 pub mod WrittenBinders
+pub mod WrittenOps
+pub mod WrittenTexts
+pub mod WrittenReadings
+pub mod WrittenTerms

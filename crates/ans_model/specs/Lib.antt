@@ -1,4 +1,5 @@
 pub mod Bodies
+pub mod Counts
 pub mod Models
 pub mod Readings
 pub mod Scopes

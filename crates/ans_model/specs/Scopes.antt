@@ -1,5 +1,5 @@
 -- Variables: their names and sorts, and which of them a name stands for.
-use Rattle.std.specs.Prelude.{ℕ, ◌+◌, Bool, cond, List, [], ◌∷◌, ◌++◌, map, Option, Some, None, codes}
+use Rattle.std.specs.Prelude.{ℕ, ◌+◌, Bool, true, not, ◌&&◌, cond, List, [], ◌∷◌, ◌++◌, map, Option, Some, None, codes}
 use Rattle.std.specs.List.{list_any}
 use Rattle.std.specs.Option.{option_or}
 use Rattle.std.specs.Str.{bytes_eq}
@@ -64,11 +64,31 @@ binder_of tree = binder_at (group_of tree)
 abbrev pub with_binder : List Binder → Binder → Option (List Binder)
 with_binder binders b = cond (binds binders b.name) None (Some (binders ++ b ∷ []))
 
+-- these variables and that of a tree behind them
+abbrev pub with_binder_of : List Binder → Tree → Option (List Binder)
+with_binder_of binders t = binder_of t >>= with_binder binders
+
 -- these variables, and after them those of the trees
 abbrev pub binders_after : List Binder → List Tree → Option (List Binder)
 binders_after binders [] = Some binders
-binders_after binders (t ∷ ts) = binder_of t >>= with_binder binders >>= (λ more. binders_after more ts)
+binders_after binders (t ∷ ts) = with_binder_of binders t >>= (λ more. binders_after more ts)
 
 -- the variables of a list of binders, whose names differ
 abbrev pub binders_of : Tree → Option (List Binder)
 binders_of tree = group_of tree >>= binders_after []
+
+-- the variables of lists of binders, one list after another
+abbrev pub flat : List (List Binder) → List Binder
+flat [] = []
+flat (binders ∷ more) = binders ++ flat more
+
+-- the variables of these names and sorts
+abbrev pub binders_with : List (List ℕ) → List Sort → List Binder
+binders_with [] sorts = []
+binders_with (name ∷ names) [] = []
+binders_with (name ∷ names) (sort ∷ sorts) = record { name = name; sort = sort } ∷ binders_with names sorts
+
+-- whether no two of the names are equal
+abbrev pub are_apart : List (List ℕ) → Bool
+are_apart [] = true
+are_apart (name ∷ names) = not (list_any (λ other. bytes_eq other name) names) && are_apart names
