@@ -174,3 +174,123 @@ module _ (names : Names) (marks : ℕ) (form : names.prefix ≡ marked marks) (c
         (place + 1) rest (spaced_parted (term_texts names (length vars) ts)))
       (args_written ts ih.1 vars found.1 deep (omega arith) answers.1 found.3 rooms.1 (place + 1 + length text))
       (one_more_read vars t found.0 ts found.1 ss found.4)
+
+  app_read : (o : Op) (vars : List Sort) (ts : List Term) (ss : List Sort) (s : Sort) → is_answer_op o (length ts) ≡ true → op_sort cx.sig o ss ≡ Some s
+      → (place : ℕ) (trees : List Tree) → Begins (NamesOp o) (ReadAll vars ts ss) trees → Reads vars (App o ts) s (Group place trees)
+  app_read o vars ts ss s answer sorted place [] h = absurd h
+  app_read o vars ts ss s answer sorted place (head ∷ args) h =
+      let count : is_answer_op o (length (beside args)) ≡ true = ap (is_answer_op o) (length-beside args ∙ h.1.0) ∙ answer in
+      operation_of o place head args (scope vars) h.0
+      ∙ (λ j. operation_plain o (beside args) count j (scope vars))
+      ∙ ap (λ (os : List (Option Typed)). all_some os >>= body.applied o) (readings_of args (scope vars))
+      ∙ ap (λ (all : Option (List Typed)). all >>= body.applied o) h.1.2
+      ∙ (λ j. option_map (λ u. typed (App o (h.1.3 j)) u) (op_sort no_datatypes o (h.1.4 j)))
+      ∙ ap (option_map (λ u. typed (App o ts) u)) (op_sort_plain cx.sig o (length ts) ss answer ∙ sorted)
+
+  room_for_arguments : (vars : List Sort) (head args : List ℕ) → HasRoom vars (40 ∷ (head ++ args) ++ 41 ∷ []) → HasRoom vars args
+  room_for_arguments vars head args room = let inner = length-append head args in let all = length-append (head ++ args) (41 ∷ []) in omega arith
+
+  app_written : (o : Op) (ts : List Term) → AllByRecursion IsWritten ts → IsWritten (App o ts)
+  app_written o [] ih vars s answer sorted room = absurd (op_takes_some o (and_parts (is_answer_op o 0) true (sym (answer-App o []) ∙ answer)).0)
+  app_written o (t ∷ more) ih vars s answer sorted room =
+      let ts : List Term = t ∷ more in
+      let parts = and_parts (is_answer_op o (length (map is_answer_term ts))) (list_all (λ b. b) (map is_answer_term ts)) (sym (answer-App o ts) ∙ answer) in
+      let count : is_answer_op o (length ts) ≡ true = ap (is_answer_op o) (sym (length-map ts is_answer_term)) ∙ parts.0 in
+      let found = argument_sorts (op_sort cx.sig o) (sorts_of cx ts vars) s (sym (sort_of-App cx o ts vars) ∙ sorted) in
+      let head : List ℕ = op_text names.sig o in
+      let args : List ℕ = spaced (term_texts names (length vars) ts) in
+      let whole = text-App names o ts (length vars) in
+      let rooms = room_for_arguments vars head args (subst (HasRoom vars) whole room) in
+      let deeper = depth-App o ts in
+      text_writes (Reads vars (App o ts) s) (depth (App o ts) + 2) (40 ∷ (head ++ args) ++ 41 ∷ []) (term_text names (App o ts) (length vars)) (sym whole)
+      (writes_wider (Reads vars (App o ts) s) (Reads vars (App o ts) s) (depth_all ts + 2 + 1) (depth (App o ts) + 2) (omega arith) (λ tree is. is) (40 ∷ (head ++ args) ++ 41 ∷ [])
+        (group_writes (Begins (NamesOp o) (ReadAll vars ts found.0)) (Reads vars (App o ts) s) (depth_all ts + 2) (head ++ args)
+          (λ place. begin_at (depth_all ts + 2) false (NamesOp o) (ReadAll vars ts found.0) place [] head args refl
+            (op_writes names.sig (depth_all ts + 2) o (length ts) count (place + 0) args (spaced_parted (term_texts names (length vars) ts)))
+            (args_written ts ih vars found.0 (depth_all ts + 2) (omega arith) parts.1 found.1 rooms (place + 0 + length head)))
+          (app_read o vars ts found.0 s count found.2)))
+
+  -- ---- quantifiers
+
+  abbrev IsQuantified : Kind → List Sort → List Sort → Term → Sort → List Tree → Type 0
+  IsQuantified k vars sorts t b = Begins (SaysKind k) (Begins (BindsAll names marks form (length vars) sorts) (Begins (Reads (vars ++ sorts) t b) IsNone))
+
+  wider_scope : (vars sorts : List Sort) → scope (vars ++ sorts) ≡ scope vars ++ numbered names.prefix (length vars) sorts
+  wider_scope vars sorts =
+      let zero_left : 0 + length vars ≡ length vars = omega arith in
+      numbered-append names.prefix 0 vars sorts ∙ ap (λ k. scope vars ++ numbered names.prefix k sorts) zero_left
+
+  quant_read : (k : Kind) (vars sorts : List Sort) (t : Term) (b s : Sort) → quantifier_sort sorts (Some b) ≡ Some s
+      → (place : ℕ) (trees : List Tree) → IsQuantified k vars sorts t b trees → Reads vars (Quant k sorts t) s (Group place trees)
+  quant_read k vars sorts t b s sorted place [] h = absurd h
+  quant_read k vars sorts t b s sorted place (head ∷ []) h = absurd h.1
+  quant_read k vars sorts t b s sorted place (head ∷ binders ∷ []) h = absurd h.1.1
+  quant_read k vars sorts t b s sorted place (head ∷ binders ∷ inner ∷ []) h =
+      let bound : List Binder = numbered names.prefix (length vars) sorts in
+      let read : typed_of inner (scope vars ++ bound) ≡ Some (typed t b) = ap (typed_of inner) (sym (wider_scope vars sorts)) ∙ h.1.1.0 in
+      quantification_of k place head (binders ∷ inner ∷ []) (scope vars) h.0
+      ∙ ap (λ o. o >>= (λ bs. typed_of inner (scope vars ++ bs) >>= body.quantified k bs)) h.1.0
+      ∙ ap (λ o. o >>= body.quantified k bound) read
+      ∙ (λ j. option_map (λ u. typed (Quant k (sorts_in-numbered names.prefix (length vars) sorts j) t) u) (quantifier_sort (sorts_in-numbered names.prefix (length vars) sorts j) (Some b)))
+      ∙ ap (option_map (λ u. typed (Quant k sorts t) u)) sorted
+  quant_read k vars sorts t b s sorted place (head ∷ binders ∷ inner ∷ d ∷ more) h = absurd h.1.1.1
+
+  answers_of_bound : (sorts : List Sort) → are_bound_sorts sorts ≡ true → list_all is_answer_sort sorts ≡ true
+  answers_of_bound [] h = absurd (false≢true h)
+  answers_of_bound (s ∷ sorts) h = h
+
+  room_for_body : (k : Kind) (vars sorts : List Sort) (text : List ℕ) → HasRoom vars (quantified names k (length vars) sorts text) → HasRoom (vars ++ sorts) text
+  room_for_body k vars sorts text room =
+      let list : List ℕ = joined (binder_texts names (length vars) sorts) in
+      let many = binders_joined names (length vars) sorts in
+      let together = length-append vars sorts in
+      let whole : length (quantified names k (length vars) sorts text) ≡ 1 + length (kind_text k) + 2 + length list + 2 + length text + 1 = simp length-append (omega arith) in
+      omega arith
+
+  quantifier_is : (k : Kind) (under : ℕ) (sorts : List Sort) (text : List ℕ)
+      → 40 ∷ (kind_text k ++ (32 ∷ (40 ∷ joined (binder_texts names under sorts) ++ 41 ∷ []) ++ 32 ∷ text)) ++ 41 ∷ [] ≡ quantified names k under sorts text
+  quantifier_is k under sorts text = simp append_assoc
+
+  quant_written : (k : Kind) (sorts : List Sort) (t : Term) → IsWritten t → IsWritten (Quant k sorts t)
+  quant_written k sorts t ih vars s answer sorted room =
+      let parts = and_parts (are_bound_sorts sorts) (is_answer_term t) (sym (answer-Quant k sorts t) ∙ answer) in
+      let found = body_sort sorts (sort_of cx t (vars ++ sorts)) s (sym (sort_of-Quant cx k sorts t vars) ∙ sorted) in
+      let under : ℕ = length vars + length sorts in
+      let together : length (vars ++ sorts) ≡ under = length-append vars sorts in
+      let word : List ℕ = kind_text k in
+      let list : List ℕ = 40 ∷ joined (binder_texts names (length vars) sorts) ++ 41 ∷ [] in
+      let text : List ℕ = term_text names t under in
+      let whole : term_text names (Quant k sorts t) (length vars) ≡ quantified names k (length vars) sorts text = text-Quant names k sorts t (length vars) in
+      let rooms : HasRoom (vars ++ sorts) text = room_for_body k vars sorts text (subst (HasRoom vars) whole room) in
+      let small : length vars + length sorts ≤ 2 ^ 64 = omega arith in
+      let writes : Writes (Reads (vars ++ sorts) t found.0) (depth t + 2) text =
+          subst (λ (u : ℕ). Writes (Reads (vars ++ sorts) t found.0) (depth t + 2) (term_text names t u)) together
+            (ih (vars ++ sorts) found.0 parts.1 found.1 (subst (λ (u : ℕ). HasRoom (vars ++ sorts) (term_text names t u)) (sym together) rooms)) in
+      let deeper = depth-Quant k sorts t in
+      let deep : ℕ = depth t + 2 in
+      text_writes (Reads vars (Quant k sorts t) s) (depth (Quant k sorts t) + 2) (40 ∷ (word ++ (32 ∷ list ++ 32 ∷ text)) ++ 41 ∷ []) (term_text names (Quant k sorts t) (length vars))
+      (quantifier_is k (length vars) sorts text ∙ sym whole)
+      (writes_wider (Reads vars (Quant k sorts t) s) (Reads vars (Quant k sorts t) s) (deep + 1) (depth (Quant k sorts t) + 2) (omega arith) (λ tree is. is)
+        (40 ∷ (word ++ (32 ∷ list ++ 32 ∷ text)) ++ 41 ∷ [])
+        (group_writes (IsQuantified k vars sorts t found.0) (Reads vars (Quant k sorts t) s) deep (word ++ (32 ∷ list ++ 32 ∷ text))
+          (λ place. begin_at deep false (SaysKind k) (Begins (BindsAll names marks form (length vars) sorts) (Begins (Reads (vars ++ sorts) t found.0) IsNone)) place [] word (32 ∷ list ++ 32 ∷ text) refl
+            (kind_writes deep k (place + 0) (32 ∷ list ++ 32 ∷ text) refl)
+            (begin_at deep false (BindsAll names marks form (length vars) sorts) (Begins (Reads (vars ++ sorts) t found.0) IsNone) (place + 0 + length word) (32 ∷ []) list (32 ∷ text) refl
+              (writes_wider (BindsAll names marks form (length vars) sorts) (BindsAll names marks form (length vars) sorts) 2 deep (omega arith) (λ tree is. is) list
+                (binders_write names marks form (length vars) sorts small (answers_of_bound sorts parts.0)) (place + 0 + length word + 1) (32 ∷ text) refl)
+              (last_at deep false (Reads (vars ++ sorts) t found.0) (place + 0 + length word + 1 + length list) (32 ∷ []) text refl writes)))
+          (quant_read k vars sorts t found.0 s found.2)))
+
+  -- ---- all terms
+
+  -- a term that can be written is written as a tree that stands for it
+  pub term_written : (t : Term) → IsWritten t
+  term_written = term_ind IsWritten (record {
+    of_var = var_written;
+    of_num = num_written;
+    of_lit = lit_written;
+    of_app = app_written;
+    of_pred = λ p ts ih vars s answer. absurd (false≢true (sym (answer-Pred p ts) ∙ answer));
+    of_quant = quant_written;
+    of_call = λ k ts ih vars s answer. absurd (false≢true (sym (answer-Call k ts) ∙ answer));
+  })
