@@ -8,3 +8,5 @@ pub mod WrittenOps
 pub mod WrittenTexts
 pub mod WrittenReadings
 pub mod WrittenTerms
+pub mod WrittenTables
+pub mod WrittenDefs
