@@ -10,3 +10,4 @@ pub mod WrittenReadings
 pub mod WrittenTerms
 pub mod WrittenTables
 pub mod WrittenDefs
+pub mod WrittenAnswers
