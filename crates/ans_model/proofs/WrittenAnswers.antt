@@ -1,12 +1,12 @@
 -- The text of definitions says them.
-use Rattle.std.proofs.Common.{◌≡◌, ◌∙◌, sym, ap, refl, subst, ℕ, zero, suc, ◌+◌, ◌≤◌, ◌<◌, ◌^◌, Bool, true, false, not, ◌&&◌, ◌||◌, cond, List, [], ◌∷◌, ◌++◌, length, map, take, Option, Some, None, is_some, slice_get, slice_set, get_or, codes, append_assoc, add-one, arith}
-use Rattle.std.specs.Prelude.{IsTrue}
+use Rattle.std.proofs.Common.{◌≡◌, ◌∙◌, sym, ap, refl, subst, ℕ, zero, suc, ◌+◌, ◌≤◌, ◌<◌, ◌^◌, Bool, true, false, not, ◌&&◌, ◌||◌, cond, List, [], ◌∷◌, ◌++◌, length, map, take, Option, Some, None, is_some, slice_get, slice_set, get_or, codes, Result, Ok, Err, append_assoc, add-one, arith}
+use Rattle.std.specs.Prelude.{IfOk}
 use Rattle.std.specs.List.{list_all}
 use Rattle.std.proofs.lemmas.Bool.{and_parts, and_from}
 use Rattle.std.proofs.lemmas.List.{length-append, length-take-le}
 use Rattle.std.proofs.lemmas.Option.{slice_get_within}
 use Rattle.std.proofs.Math.Seq.{take-length}
-use Rattle.chc_sorts.specs.declared.sort.Sort.{Sort}
+use Rattle.chc_sorts.specs.declared.memory.NoMemory.{NoMemory}
 use Rattle.chc_sorts.specs.declared.sort.Sort.TheVariants as sort
 use Rattle.chc_sexpr.specs.Names.{AreNames}
 use Rattle.chc_sexpr.specs.Spelling.{is_quotable}
@@ -25,7 +25,7 @@ use Rattle.chc_print.specs.Symbols.{symbol_text}
 use Rattle.chc_print.specs.Texts.{Names, name_at, or_empty, joined, sort_text, binder_texts, term_text}
 use Rattle.chc_print.specs.Script.{script_names}
 use Rattle.chc_print.proofs.Room.{binders_joined}
-use Rattle.ans_model.specs.Texts.{definition_text, definitions_text, lines_of_defs, AreOwners}
+use Rattle.ans_model.specs.Texts.{definition_text, definitions_text, lines_of_defs, AreOwners, IsDefsText}
 use Rattle.ans_model.specs.Models.{IsAnswer, SaysModel, named, definition_of, takes_sorts, is_vacant, with_definition, number_of, with_named, defs_after, no_definitions, are_defined, complete, without_model, defs_in, defs_of}
 use Rattle.ans_model.specs.Readings.{◌>>=◌}
 use Rattle.ans_model.specs.Shapes.{symbol_of, group_of, is_symbol}
@@ -258,3 +258,11 @@ module _ (d : Defs) (s : StateView) (names : List (List ℕ)) (owners prefix : L
                 (group_is_written (omega arith) 4 (10 ∷ []) refl)
                 (no_more_at IsNone 1000 true (4 + length group) (10 ∷ []) refl tt)))) in
       record { trees = spelled.0; spelled = spelled.1; stands = answer_read spelled.0 spelled.2 }
+
+-- what is written says the definitions
+pub answer_says : (d : Defs) (s : StateView) (names : List (List ℕ)) (r : Result (List ℕ) NoMemory)
+    → length names ≡ length s.preds → AreNames names → Defines d s → IsAnswer d
+    → IfOk r (IsDefsText d s names) → IfOk r (λ text. length text < 2 ^ 64) → IfOk r (λ text. SaysModel text s names d)
+answer_says d s names (Ok text) paired are defines answer is short =
+    text_says d s names is.1 is.0 is.2.marks is.2.form paired are defines answer is.3 text is.4 short
+answer_says d s names (Err refused) paired are defines answer is short = is

@@ -1,6 +1,6 @@
 //! The texts of definitions.
 
-ghost use Rattle.std.specs.Prelude.{◌≡◌, ℕ, ◌≤◌, ◌++◌, [], length, slice_get, slice_index, Some, IfOk, OnOk};
+ghost use Rattle.std.specs.Prelude.{◌≡◌, ℕ, ◌^◌, ◌<◌, ◌≤◌, ◌++◌, [], length, slice_get, slice_index, Some, IfOk, OnOk};
 ghost use Rattle.chc_sexpr.specs.Names.{AreNames};
 ghost use Rattle.chc_state.specs.Definitions.{Defines};
 ghost use Rattle.chc_print.specs.Texts.{name_at};
@@ -81,7 +81,7 @@ fn write_definitions(
     Ok(())
 }
 
-/// The text of definitions, with the names given.
+/// The text of definitions, with the names given. It is no longer than a number of bytes can say.
 fn text_of(
     alloc: Global,
     names: &Naming,
@@ -89,13 +89,40 @@ fn text_of(
     defs: &[Def],
 ) -> Result<ByteText, NoMemory>
     requires { length owners.now ≡ length defs.now }
-    ensures { IfOk result (λ text. text ≡ lines_of_defs names.now owners.now defs.now) }
+    ensures lines { IfOk result (λ text. text ≡ lines_of_defs names.now owners.now defs.now) }
+    ensures short { IfOk result (λ text. length text < 2 ^ 64) }
 {
     let mut out = ByteText::new(alloc);
     out.extend(b"sat\n(\n")?;
     write_definitions(&mut out, names, owners, defs)?;
     out.extend(b")\n")?;
+    let _bytes = out.len();
     Ok(out)
+}
+
+/// The text of definitions, with variables named beside the names in use.
+fn text_beside(
+    alloc: Global,
+    d: &Defs,
+    s: &State,
+    names: &List<Name>,
+) -> Result<ByteText, NoMemory>
+    requires plain { s.now.sig.datatypes ≡ [] }
+    requires defines { Defines d.now s.now }
+    requires answer { IsAnswer d.now }
+    ensures text { IfOk result (IsDefsText d.now s.now names.now) }
+    ensures short { IfOk result (λ text. length text < 2 ^ 64) }
+{
+    let prefix = variable_prefix(alloc, names.as_slice())?;
+    let owners = owners_of(alloc, d)?;
+    let calls = List::new(alloc);
+    let naming = Naming {
+        sig: s.sig(),
+        preds: names,
+        calls: &calls,
+        prefix: prefix.bytes(),
+    };
+    text_of(alloc, &naming, owners.as_slice(), d.list.as_slice())
 }
 
 /// The text of definitions of the live predicates of a state, whose predicates have these names by number:
@@ -115,14 +142,5 @@ pub fn defs_text(
     ensures text { IfOk result (IsDefsText d.now s.now names.now) }
     ensures again { IfOk result (λ text. SaysModel text s.now names.now d.now) }
 {
-    let prefix = variable_prefix(alloc, names.as_slice())?;
-    let owners = owners_of(alloc, d)?;
-    let calls = List::new(alloc);
-    let naming = Naming {
-        sig: s.sig(),
-        preds: names,
-        calls: &calls,
-        prefix: prefix.bytes(),
-    };
-    text_of(alloc, &naming, owners.as_slice(), d.list.as_slice())
+    text_beside(alloc, d, s, names)
 }
