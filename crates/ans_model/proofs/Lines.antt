@@ -1,5 +1,5 @@
 -- The lines of definitions, one after another.
-use Rattle.std.proofs.Common.{◌≡◌, ◌∙◌, sym, ap, ℕ, ◌+◌, ◌<◌, List, ◌∷◌, ◌++◌, length, get_or, drop, suc, append_assoc, drop-cons, add-one}
+use Rattle.std.proofs.Common.{◌≡◌, ◌∙◌, sym, ap, ℕ, ◌+◌, ◌<◌, List, ◌∷◌, ◌++◌, length, get_or, drop, append_assoc, drop-cons, add-one}
 use Rattle.chc_state.specs.declared.defs.Def.{Def}
 use Rattle.chc_print.specs.Texts.{Names, name_at}
 use Rattle.ans_model.specs.Texts.{definition_text, definitions_text}

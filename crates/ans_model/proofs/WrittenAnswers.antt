@@ -1,5 +1,5 @@
 -- The text of definitions says them.
-use Rattle.std.proofs.Common.{◌≡◌, ◌∙◌, sym, ap, refl, subst, ℕ, zero, suc, ◌+◌, ◌≤◌, ◌<◌, ◌^◌, Bool, true, false, not, ◌&&◌, ◌||◌, cond, List, [], ◌∷◌, ◌++◌, length, map, take, Option, Some, None, is_some, slice_get, slice_set, get_or, codes, Result, Ok, Err, append_assoc, add-one, arith}
+use Rattle.std.proofs.Common.{◌≡◌, ◌∙◌, sym, ap, refl, subst, ℕ, zero, suc, ◌+◌, ◌<◌, ◌^◌, Bool, true, false, not, ◌||◌, cond, List, [], ◌∷◌, ◌++◌, length, map, take, Option, Some, None, is_some, slice_get, slice_set, get_or, codes, Result, Ok, Err, append_assoc, add-one, arith}
 use Rattle.std.specs.Prelude.{IfOk}
 use Rattle.std.specs.List.{list_all}
 use Rattle.std.proofs.lemmas.Bool.{and_parts, and_from}
@@ -11,9 +11,8 @@ use Rattle.chc_sorts.specs.declared.sort.Sort.TheVariants as sort
 use Rattle.chc_sexpr.specs.Names.{AreNames}
 use Rattle.chc_sexpr.specs.Spelling.{is_quotable}
 use Rattle.chc_sexpr.specs.declared.tree.Tree.{Tree}
-use Rattle.chc_sexpr.specs.declared.tree.Tree.TheVariants.{Group}
 use Rattle.chc_sexpr.proofs.Written.{Writes, TreesAt, no_more_at, next_at, spells_from}
-use Rattle.chc_terms.specs.Sorted.{Context, sort_of, same_sorts}
+use Rattle.chc_terms.specs.Sorted.{Context, same_sorts}
 use Rattle.chc_terms.proofs.SameSort.{same_sorts_itself}
 use Rattle.chc_state.specs.declared.clause.PredDecl.{PredDecl}
 use Rattle.chc_state.specs.declared.defs.Def.{Def}
@@ -26,13 +25,13 @@ use Rattle.chc_print.specs.Texts.{Names, name_at, or_empty, joined, sort_text, b
 use Rattle.chc_print.specs.Script.{script_names}
 use Rattle.chc_print.proofs.Room.{binders_joined}
 use Rattle.ans_model.specs.Texts.{definition_text, definitions_text, lines_of_defs, AreOwners, IsDefsText}
-use Rattle.ans_model.specs.Models.{IsAnswer, SaysModel, named, definition_of, takes_sorts, is_vacant, with_definition, number_of, with_named, defs_after, no_definitions, are_defined, complete, without_model, defs_in, defs_of}
+use Rattle.ans_model.specs.Models.{IsAnswer, SaysModel, named, takes_sorts, is_vacant, with_definition, with_named, defs_after, no_definitions, are_defined, complete, without_model, defs_in, defs_of}
 use Rattle.ans_model.specs.Readings.{◌>>=◌}
-use Rattle.ans_model.specs.Shapes.{symbol_of, group_of, is_symbol}
+use Rattle.ans_model.specs.Shapes.{group_of}
 use Rattle.ans_model.proofs.WrittenForms.{group_of-Group}
 use Rattle.ans_model.proofs.WrittenNames.{IsSymbolOf, bare_writes}
 use Rattle.ans_model.proofs.WrittenTables.{number_of_name, below, none_below, vacant_below, set_below, all_below}
-use Rattle.ans_model.proofs.WrittenTrees.{IsNone, Begins, writes_wider, text_writes, begin_at, group_writes}
+use Rattle.ans_model.proofs.WrittenTrees.{IsNone, Begins, writes_wider, begin_at, group_writes}
 use Rattle.ans_model.proofs.WrittenDefs.{symbol_is, IsWritable, group_text, line_is, IsDefinitionOf, definition_writes}
 
 -- ---- lists by number

@@ -1,5 +1,5 @@
 -- Sorts and lists of binders are written as trees that are read again.
-use Rattle.std.proofs.Common.{◌≡◌, ◌∙◌, sym, ap, refl, subst, inl, inr, ℕ, ◌+◌, ◌≤◌, ◌<◌, ◌^◌, Bool, true, false, ◌&&◌, ◌||◌, cond, List, [], ◌∷◌, ◌++◌, length, Option, Some, None, option_map, codes, append_assoc, arith}
+use Rattle.std.proofs.Common.{◌≡◌, ◌∙◌, sym, ap, refl, subst, inl, inr, ℕ, ◌+◌, ◌≤◌, ◌<◌, ◌^◌, false, cond, List, [], ◌∷◌, ◌++◌, length, Some, None, codes, append_assoc, arith}
 use Rattle.std.specs.Prelude.{IsTrue, decimal}
 use Rattle.std.specs.List.{list_all}
 use Rattle.std.proofs.lemmas.Bool.{or_cases, and_parts}
@@ -8,7 +8,7 @@ use Rattle.chc_sorts.specs.Signature.{Signature}
 use Rattle.chc_sorts.specs.declared.sort.Sort.{Sort, Sort-F, fold-roll-Sort}
 use Rattle.chc_sorts.specs.declared.sort.Sort.TheVariants as sort
 use Rattle.chc_sexpr.specs.declared.tree.Tree.{Tree}
-use Rattle.chc_sexpr.specs.declared.tree.Tree.TheVariants.{Symbol, Group}
+use Rattle.chc_sexpr.specs.declared.tree.Tree.TheVariants.{Group}
 use Rattle.chc_sexpr.proofs.Written.{Writes, TreesAt, is_parted, no_more_at, next_at}
 use Rattle.chc_terms.specs.Sorted.{same_sort}
 use Rattle.chc_terms.proofs.SameSort.{same_from_test}
@@ -16,8 +16,8 @@ use Rattle.chc_print.specs.Prefix.{marked}
 use Rattle.chc_print.specs.Texts.{Names, spaced, joined, sort_text, sort_step, variable_text, binder_text, binder_texts}
 use Rattle.ans_model.specs.Models.{is_answer_sort}
 use Rattle.ans_model.specs.Readings.{◌>>=◌}
-use Rattle.ans_model.specs.Scopes.{Binder, binds, sort_named, sort_written, binder_at, binder_parts, binder_of, with_binder, binders_after, binders_of}
-use Rattle.ans_model.specs.Shapes.{symbol_of, group_of}
+use Rattle.ans_model.specs.Scopes.{Binder, sort_named, sort_written, binder_at, binder_parts, binder_of, with_binder, binders_after, binders_of}
+use Rattle.ans_model.specs.Shapes.{symbol_of}
 use Rattle.ans_model.proofs.WrittenForms.{symbol_of-Symbol, group_of-Group}
 use Rattle.ans_model.proofs.WrittenNames.{IsSymbolOf, bare_writes, variable_writes}
 use Rattle.ans_model.proofs.WrittenScopes.{variable_name, numbered, numbered-append, binds_none, later_foreign}

@@ -1,37 +1,33 @@
 -- Definitions are written as trees that are read as them.
-use Rattle.std.proofs.Common.{◌≡◌, ◌∙◌, sym, ap, refl, subst, ℕ, zero, suc, ◌+◌, ◌≤◌, ◌<◌, ◌^◌, Bool, true, false, ◌&&◌, cond, nat_lt, List, [], ◌∷◌, ◌++◌, length, map, Option, Some, None, option_map, slice_get, codes, append_assoc, arith}
+use Rattle.std.proofs.Common.{◌≡◌, ◌∙◌, sym, ap, refl, ℕ, ◌+◌, ◌≤◌, ◌<◌, ◌^◌, true, false, ◌&&◌, cond, nat_lt, List, [], ◌∷◌, ◌++◌, length, Some, None, option_map, codes, append_assoc, arith}
 use Rattle.std.specs.Prelude.{IsTrue}
 use Rattle.std.specs.List.{list_all}
 use Rattle.std.proofs.lemmas.Bool.{and_parts, ltb-true}
-use Rattle.std.proofs.lemmas.List.{length-append}
-use Rattle.chc_sorts.specs.declared.sort.Sort.{Sort}
 use Rattle.chc_sorts.specs.declared.sort.Sort.TheVariants as sort
 use Rattle.chc_sexpr.specs.Spelling.{is_quotable}
 use Rattle.chc_sexpr.specs.declared.tree.Tree.{Tree}
 use Rattle.chc_sexpr.specs.declared.tree.Tree.TheVariants.{Group}
-use Rattle.chc_sexpr.proofs.Written.{Writes, TreesAt}
+use Rattle.chc_sexpr.proofs.Written.{Writes}
 use Rattle.chc_terms.specs.Counts.{size, depth}
-use Rattle.chc_terms.specs.Sorted.{Context, sort_of, same_sort}
+use Rattle.chc_terms.specs.Sorted.{Context, sort_of}
 use Rattle.chc_terms.proofs.SameSort.{same_itself}
 use Rattle.chc_state.specs.declared.defs.Def.{Def}
 use Rattle.chc_print.specs.Prefix.{marked}
 use Rattle.chc_print.specs.Symbols.{symbol_text}
 use Rattle.chc_print.specs.Texts.{Names, joined, sort_text, binder_texts, term_text}
-use Rattle.chc_print.proofs.Room.{binders_joined}
 use Rattle.ans_model.specs.Texts.{definition_text}
-use Rattle.ans_model.specs.Models.{IsAnswerDef, is_small, most_nodes, most_depth, named, Named, body_at, definition_over, definition_parts, definition_at, definition_of}
+use Rattle.ans_model.specs.Models.{IsAnswerDef, is_small, most_nodes, most_depth, named, body_at, definition_over, definition_parts, definition_at, definition_of}
 use Rattle.ans_model.specs.Readings.{◌>>=◌}
-use Rattle.ans_model.specs.Scopes.{Binder, sorts_in, binders_of}
-use Rattle.ans_model.specs.Shapes.{symbol_of, group_of, is_name, is_symbol}
+use Rattle.ans_model.specs.Scopes.{sorts_in}
+use Rattle.ans_model.specs.Shapes.{symbol_of, is_name, is_symbol}
 use Rattle.ans_model.specs.Bodies.{typed_of}
-use Rattle.ans_model.specs.declared.typed.Typed.{Typed}
 use Rattle.ans_model.proofs.WrittenForms.{symbol_of-Group, group_of-Group}
 use Rattle.ans_model.proofs.WrittenNames.{IsSymbolOf, bare_writes, name_writes}
 use Rattle.ans_model.proofs.WrittenScopes.{numbered, sorts_in-numbered, bytes_eq_itself}
-use Rattle.ans_model.proofs.WrittenTrees.{IsNone, Begins, writes_wider, text_writes, begin_at, last_at, group_writes}
+use Rattle.ans_model.proofs.WrittenTrees.{IsNone, Begins, writes_wider, begin_at, last_at, group_writes}
 use Rattle.ans_model.proofs.WrittenBinders.{symbol_named, text_of_bool, BindsAll, binders_write}
 use Rattle.ans_model.proofs.WrittenReadings.{typed}
-use Rattle.ans_model.proofs.WrittenTerms.{Reads, HasRoom, term_written}
+use Rattle.ans_model.proofs.WrittenTerms.{Reads, term_written}
 
 pub symbol_is : (name : List ℕ) (tree : Tree) → IsSymbolOf name tree → is_symbol name tree ≡ true
 symbol_is name tree is = ap (is_name name) (symbol_named name tree is) ∙ bytes_eq_itself name

@@ -1,5 +1,5 @@
 -- What the readings take trees of each kind for.
-use Rattle.std.proofs.Common.{◌≡◌, ◌∙◌, sym, ap, ℕ, ◌<◌, ◌^◌, ℤ, pos, cond, List, map, Option, Some, None, option_map}
+use Rattle.std.proofs.Common.{◌≡◌, ◌∙◌, ap, ℕ, ◌<◌, ◌^◌, pos, cond, List, map, Some, None, option_map}
 use Rattle.std.proofs.lemmas.Bool.{lt-ltb}
 use Rattle.chc_sexpr.specs.declared.tree.Tree.{Tree}
 use Rattle.chc_sexpr.specs.declared.tree.Tree.TheVariants.{Symbol, Word, Numeral, Group, outs-Symbol, outs-Word, outs-Numeral, outs-Group}

@@ -1,5 +1,5 @@
 -- Names, variables and numerals are written as trees of their own.
-use Rattle.std.proofs.Common.{◌≡◌, ◌∙◌, sym, ap, refl, subst, ℕ, zero, suc, ◌≤◌, ◌<◌, ◌^◌, ℤ, pos, Bool, true, false, not, ◌&&◌, ◌||◌, cond, List, [], ◌∷◌, ◌++◌, replicate, codes, arith}
+use Rattle.std.proofs.Common.{◌≡◌, ◌∙◌, refl, ℕ, zero, suc, ◌<◌, ◌^◌, pos, Bool, true, false, not, ◌&&◌, ◌||◌, cond, List, [], ◌∷◌, ◌++◌, replicate, codes, arith}
 use Rattle.std.specs.Prelude.{IsTrue, decimal}
 use Rattle.std.specs.List.{list_all}
 use Rattle.std.specs.Char.{digit_value, is_ascii_alphanumeric}
@@ -13,7 +13,7 @@ use Rattle.chc_sexpr.specs.Tokens.{is_symbol_byte, is_symbol_sign, is_simple_sym
 use Rattle.chc_sexpr.specs.Spelling.{is_quotable}
 use Rattle.chc_sexpr.specs.declared.tree.Tree.{Tree}
 use Rattle.chc_sexpr.specs.declared.tree.Tree.TheVariants.{Symbol, Word, Numeral}
-use Rattle.chc_sexpr.proofs.Written.{Writes, TreeAt, symbol_at, quoted_at, word_at, numeral_at}
+use Rattle.chc_sexpr.proofs.Written.{Writes, symbol_at, quoted_at, word_at, numeral_at}
 use Rattle.chc_print.specs.Symbols.{is_bare, is_command_name, symbol_text}
 use Rattle.chc_print.specs.Prefix.{marked}
 

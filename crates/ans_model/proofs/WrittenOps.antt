@@ -1,5 +1,5 @@
 -- Operators and quantifiers are written as heads that are read again.
-use Rattle.std.proofs.Common.{◌≡◌, ◌∙◌, sym, ap, refl, ℕ, ◌≤◌, Bool, true, false, ◌&&◌, cond, nat_eq, List, [], ◌∷◌, length, map, Option, Some, None, codes, arith}
+use Rattle.std.proofs.Common.{◌≡◌, ◌∙◌, ap, refl, ℕ, true, List, [], ◌∷◌, length, map, Some, None, codes, arith}
 use Rattle.std.specs.Prelude.{IsTrue, not}
 use Rattle.std.proofs.lemmas.Bool.{false≢true}
 use Rattle.chc_sorts.specs.Signature.{Signature, no_datatypes}
@@ -8,7 +8,6 @@ use Rattle.chc_sorts.specs.declared.op.Op.{Op}
 use Rattle.chc_sorts.specs.declared.op.Op.TheVariants as op
 use Rattle.chc_sexpr.specs.Tokens.{is_simple_symbol, is_reserved}
 use Rattle.chc_sexpr.specs.declared.tree.Tree.{Tree}
-use Rattle.chc_sexpr.specs.declared.tree.Tree.TheVariants.{Symbol, Word}
 use Rattle.chc_sexpr.proofs.Written.{Writes}
 use Rattle.chc_terms.specs.Sorted.{op_sort}
 use Rattle.chc_terms.specs.declared.term.Kind.{Kind}

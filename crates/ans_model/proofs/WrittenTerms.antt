@@ -1,6 +1,6 @@
 -- Terms are written as trees that stand for them.
-use Rattle.std.proofs.Common.{◌≡◌, ◌∙◌, sym, ap, refl, subst, ℕ, zero, suc, ◌+◌, ◌≤◌, ◌<◌, ◌^◌, max, ℤ, pos, negsuc, Bool, true, false, ◌&&◌, cond, nat_eq, List, [], ◌∷◌, ◌++◌, length, map, Option, Some, None, option_map, option_and_then, slice_get, codes, append_assoc, add-one, arith}
-use Rattle.std.specs.Prelude.{IsTrue, decimal}
+use Rattle.std.proofs.Common.{◌≡◌, ◌∙◌, sym, ap, refl, subst, ℕ, suc, ◌+◌, ◌≤◌, ◌<◌, ◌^◌, ℤ, pos, negsuc, Bool, true, false, List, [], ◌∷◌, ◌++◌, length, map, Option, Some, option_map, option_and_then, slice_get, codes, append_assoc, arith}
+use Rattle.std.specs.Prelude.{decimal}
 use Rattle.std.specs.List.{list_all, AllByRecursion}
 use Rattle.std.specs.Option.{option_or}
 use Rattle.std.specs.Str.{bytes_eq}
@@ -13,32 +13,31 @@ use Rattle.chc_sorts.specs.declared.sort.Sort.TheVariants as sort
 use Rattle.chc_sorts.specs.declared.op.Op.{Op}
 use Rattle.chc_sorts.specs.declared.op.Op.TheVariants as op
 use Rattle.chc_sexpr.specs.declared.tree.Tree.{Tree}
-use Rattle.chc_sexpr.specs.declared.tree.Tree.TheVariants.{Symbol, Word, Numeral, Group}
-use Rattle.chc_sexpr.proofs.Written.{TreeAt, TreesAt, Writes, no_more_at, next_at}
+use Rattle.chc_sexpr.specs.declared.tree.Tree.TheVariants.{Group}
+use Rattle.chc_sexpr.proofs.Written.{TreesAt, Writes, no_more_at, next_at}
 use Rattle.chc_terms.specs.declared.term.Kind.{Kind}
-use Rattle.chc_terms.specs.declared.term.Term.{Term, Term-F, fold-roll-Term}
-use Rattle.chc_terms.specs.declared.term.Term.TheVariants.{Var, Num, Lit, App, Pred, Quant, Call, rolls-Var, rolls-Num, rolls-Lit, rolls-App, rolls-Quant}
-use Rattle.chc_terms.specs.declared.term.Term.TheVariants as term
+use Rattle.chc_terms.specs.declared.term.Term.{Term}
+use Rattle.chc_terms.specs.declared.term.Term.TheVariants.{Var, Num, Lit, App, Quant}
 use Rattle.chc_terms.specs.Counts.{depth, depth_all}
 use Rattle.chc_terms.specs.Sorted.{Context, sort_of, sorts_of, op_sort, all_some, quantifier_sort}
 use Rattle.chc_terms.proofs.CountLaws.{depth-App, depth-Quant}
-use Rattle.chc_terms.proofs.Induction.{TermCases, term_ind}
-use Rattle.chc_terms.proofs.SortLaws.{sort_of-Var, sort_of-Num, sort_of-Lit, sort_of-App, sort_of-Quant, sorts_of-cons}
+use Rattle.chc_terms.proofs.Induction.{term_ind}
+use Rattle.chc_terms.proofs.SortLaws.{sort_of-Var, sort_of-Num, sort_of-Lit, sort_of-App, sort_of-Quant}
 use Rattle.chc_print.specs.Prefix.{marked}
-use Rattle.chc_print.specs.Texts.{Names, spaced, joined, applied, number_text, truth_text, op_text, kind_text, variable_text, binder_texts, quantified, each_under, term_step, term_text, term_texts}
+use Rattle.chc_print.specs.Texts.{Names, spaced, joined, number_text, truth_text, op_text, kind_text, variable_text, binder_texts, quantified, term_text, term_texts}
 use Rattle.chc_print.proofs.Room.{binders_joined}
 use Rattle.ans_model.specs.Bodies as body
 use Rattle.ans_model.specs.Bodies.{Reading, number, literal_of, symbol_term, op_named, operation, application, negation, named_term, quantification, headed, kind_of, typed_of}
-use Rattle.ans_model.specs.Models.{is_answer_sort, is_answer_op, is_answer_number, are_bound_sorts, is_answer_step, is_answer_term}
+use Rattle.ans_model.specs.Models.{is_answer_sort, is_answer_op, is_answer_number, are_bound_sorts, is_answer_term}
 use Rattle.ans_model.specs.Readings.{◌>>=◌}
-use Rattle.ans_model.specs.Scopes.{Binder, sorts_in, variable_of, binders_of}
-use Rattle.ans_model.specs.Shapes.{symbol_of, word_of, numeral_of}
+use Rattle.ans_model.specs.Scopes.{Binder, variable_of}
+use Rattle.ans_model.specs.Shapes.{numeral_of}
 use Rattle.ans_model.specs.declared.typed.Typed.{Typed}
-use Rattle.ans_model.proofs.WrittenForms.{typed_of-Symbol, typed_of-Numeral, typed_of-Group, numeral_of-Numeral}
+use Rattle.ans_model.proofs.WrittenForms.{typed_of-Symbol, typed_of-Numeral, numeral_of-Numeral}
 use Rattle.ans_model.proofs.WrittenNames.{IsSymbolOf, IsNumeralOf, bare_writes, numeral_writes}
 use Rattle.ans_model.proofs.WrittenScopes.{variable_name, numbered, numbered-append, sorts_in-numbered, variable_none, variable_found}
 use Rattle.ans_model.proofs.WrittenTrees.{IsNone, Begins, writes_wider, text_writes, begin_at, last_at, group_writes}
-use Rattle.ans_model.proofs.WrittenBinders.{symbol_named, spaced_parted, numbered_in, variable_in, variable_in_writes, BindsAll, binders_write}
+use Rattle.ans_model.proofs.WrittenBinders.{spaced_parted, numbered_in, variable_in_writes, BindsAll, binders_write}
 use Rattle.ans_model.proofs.WrittenOps.{NamesOp, op_writes, op_takes_some, op_sort_plain, operation_plain, SaysKind, kind_writes}
 use Rattle.ans_model.proofs.WrittenTexts.{text-Var, text-Num, text-Lit, text-App, text-Quant, answer-Num, answer-App, answer-Pred, answer-Quant, answer-Call}
 use Rattle.ans_model.proofs.WrittenReadings.{typed, both_some, argument_sorts, body_sort, beside, readings_of, length-beside, operation_of, quantification_of}

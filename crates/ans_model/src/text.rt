@@ -96,7 +96,6 @@ fn text_of(
     out.extend(b"sat\n(\n")?;
     write_definitions(&mut out, names, owners, defs)?;
     out.extend(b")\n")?;
-    let _bytes = out.len();
     Ok(out)
 }
 
