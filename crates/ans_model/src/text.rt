@@ -143,3 +143,6 @@ pub fn defs_text(
 {
     text_beside(alloc, d, s, names)
 }
+
+#[cfg(test)]
+mod tests;
