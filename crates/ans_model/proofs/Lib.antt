@@ -1,3 +1,14 @@
+pub mod Apart
+pub mod Entries
+pub mod Lengths
+pub mod Outcomes
+pub mod Reading
+pub mod Room
+pub mod Scoping
+pub mod Sorting
+pub mod SortTests
+pub mod Tables
+pub mod TypedLaws
 pub mod Lines
 pub mod WrittenForms
 pub mod WrittenScopes

@@ -1,7 +1,13 @@
 //! Model answers: definitions of predicates, read and written.
 #![tactic(auto)]
 
+mod body;
+mod definition;
+mod names;
 mod read;
+mod scope;
+mod shape;
+mod sorts;
 mod text;
 mod typed;
 
