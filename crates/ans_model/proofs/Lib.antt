@@ -10,3 +10,16 @@ pub mod Sound
 pub mod SortTests
 pub mod Tables
 pub mod TypedLaws
+pub mod Lines
+pub mod WrittenForms
+pub mod WrittenScopes
+pub mod WrittenNames
+pub mod WrittenTrees
+pub mod WrittenBinders
+pub mod WrittenOps
+pub mod WrittenTexts
+pub mod WrittenReadings
+pub mod WrittenTerms
+pub mod WrittenTables
+pub mod WrittenDefs
+pub mod WrittenAnswers

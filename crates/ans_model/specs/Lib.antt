@@ -5,3 +5,4 @@ pub mod Models
 pub mod Readings
 pub mod Scopes
 pub mod Shapes
+pub mod Texts

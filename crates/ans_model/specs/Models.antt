@@ -23,6 +23,7 @@ use Rattle.ans_model.specs.Scopes.{Binder, sorts_in, binders_of}
 use Rattle.ans_model.specs.Shapes.{symbol_of, group_of, is_symbol}
 pub use Rattle.ans_model.specs.declared.definition.Named.{Named}
 use Rattle.ans_model.specs.declared.typed.Typed.{Typed}
+pub use Rattle.ans_model.specs.Texts.{IsDefsText}
 
 -- how many nodes the body of a definition may have at most, and how many on a branch
 abbrev pub most_nodes : ℕ
@@ -211,7 +212,3 @@ pub record IsAnswerDef (def : Def) : Type 0 where
 pub record IsAnswer (d : Defs) : Type 0 where
   pub owned : (k : ℕ) → k < length d.list → (p : ℕ) × (slice_get d.of p ≡ Some (Some k))
   pub answers : (k : ℕ) (def : Def) → slice_get d.list k ≡ Some def → IsAnswerDef def
-
--- the text is that of the definitions, of predicates of these names
-abbrev pub IsDefsText : Defs → StateView → List (List ℕ) → List ℕ → Type 0
-IsDefsText d s names text = text ≡ text
