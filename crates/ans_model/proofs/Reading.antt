@@ -1,5 +1,5 @@
 -- Steps of the reading of bodies.
-use Rattle.std.proofs.Common.{◌≡◌, ◌<◌, ◌≤◌, ◌+◌, ◌&&◌, ◌++◌, ◌∷◌, [], ℕ, ℤ, zero, suc, Bool, true, false, cond, slice_get, nat_eq, List, length, map, drop, get_or, refl, ap, sym, subst, ◌∙◌, Option, Some, None, arith}
+use Rattle.std.proofs.Common.{◌≡◌, ◌<◌, ◌≤◌, ◌+◌, ◌&&◌, ◌++◌, ◌∷◌, [], ℕ, ℤ, zero, suc, Bool, true, false, cond, slice_get, nat_eq, List, length, map, drop, get_or, remove, refl, ap, sym, subst, ◌∙◌, Option, Some, None, arith}
 use Rattle.std.specs.List.{AllByRecursion}
 use Rattle.std.specs.Option.{option_map}
 use Rattle.std.proofs.lemmas.List.{length-append}
@@ -10,11 +10,11 @@ use Rattle.chc_sexpr.specs.declared.tree.Tree.{Tree}
 use Rattle.chc_sexpr.specs.declared.tree.Tree.TheOpen.{Tree-F}
 use Rattle.chc_sexpr.specs.declared.tree.Tree.TheVariants.{Symbol, Word, Keyword, Numeral, Text, Other, Group, outs-Symbol, outs-Word, outs-Keyword, outs-Numeral, outs-Text, outs-Other, outs-Group}
 use Rattle.chc_terms.specs.Sorted.{all_some}
-use Rattle.ans_model.specs.Bodies.{Reading, group_term, headed, op_named, applied, application, beside, is_negation, is_minus, operation, typed_all, typed_of}
+use Rattle.ans_model.specs.Bodies.{Reading, group_term, headed, named_term, op_named, turned, turned_named, exchanged, applied, application, beside, is_negation, is_minus, operation, typed_all, typed_of}
 use Rattle.ans_model.specs.Counts.{count, count_step, count_all}
-use Rattle.ans_model.specs.Readings.{◌>>=◌}
+use Rattle.chc_sexpr.specs.Readings.{◌>>=◌}
 use Rattle.ans_model.specs.Scopes.{Binder, binder_of, binders_after, binders_of, flat, with_binder, with_binder_of}
-use Rattle.ans_model.specs.Shapes.{group_at, group_of, symbol_of, word_of}
+use Rattle.chc_sexpr.specs.Shapes.{group_at, group_of, symbol_of, word_of}
 use Rattle.ans_model.specs.declared.typed.Typed.{Typed}
 use Rattle.ans_model.proofs.Outcomes.{bind_some}
 use Rattle.ans_model.proofs.Scoping.{flat-append}
@@ -173,16 +173,32 @@ operation_all o trees scope h = application_all o (drop 1 trees) scope
 abbrev pub read_and_more : List Typed → List Tree → List Binder → Option (List Typed)
 read_and_more args trees scope = option_map (λ more. args ++ more) (typed_all trees scope)
 
-headed_none : (word : Option (List ℕ)) (name : List ℕ) (args : List (Tree × Reading)) (scope : List Binder) → op_named name ≡ None → headed (Some name) word args scope ≡ None
-headed_none None name args scope none = ap (λ o. o >>= (λ p. operation p args scope)) none
-headed_none (Some word) name args scope none = ap (λ o. o >>= (λ p. operation p args scope)) none
+-- a comparison whose sides are exchanged
+turned_readings : (trees : List Tree) (scope : List Binder) → map (λ (t : Tree × Reading). t.1 scope) (beside trees) ≡ map (λ t. typed_of t scope) trees
+turned_readings [] scope = refl
+turned_readings (t ∷ ts) scope = ap (λ l. typed_of t scope ∷ l) (turned_readings ts scope)
 
--- a group whose first tree is a symbol that names no operator
-pub no_operator : (trees : List Tree) (head : Tree) (name : List ℕ) → slice_get trees 0 ≡ Some head → symbol_of head ≡ Some name → op_named name ≡ None → (scope : List Binder) → group_term (beside trees) scope ≡ None
-no_operator [] head name at symbol none scope = cc
-no_operator (x ∷ xs) head name at symbol none scope =
-    let same : x ≡ head = cc in
-    ap (λ o. headed o (word_of x) (beside xs) scope) (ap symbol_of same ∙ symbol) ∙ headed_none (word_of x) name (beside xs) scope none
+pub turned_all : (o : Op) (trees : List Tree) (scope : List Binder) → turned o (beside trees) scope ≡ (typed_all trees scope >>= (λ args. applied o (exchanged args)))
+turned_all o trees scope = ap (λ (l : List (Option Typed)). all_some l >>= (λ args. applied o (exchanged args))) (turned_readings trees scope)
+
+pub turned_read : (o : Op) (trees : List Tree) (scope : List Binder) (args : List Typed) → Some args ≡ typed_all (drop 1 trees) scope → applied o (exchanged args) ≡ turned o (beside (drop 1 trees)) scope
+turned_read o trees scope args e = ap (λ r. r >>= (λ args. applied o (exchanged args))) e ∙ sym (turned_all o (drop 1 trees) scope)
+
+pub turned_unread : (o : Op) (trees : List Tree) (scope : List Binder) → None ≡ typed_all (drop 1 trees) scope → None ≡ turned o (beside (drop 1 trees)) scope
+turned_unread o trees scope e = ap (λ r. r >>= (λ args. applied o (exchanged args))) e ∙ sym (turned_all o (drop 1 trees) scope)
+
+-- two terms exchanged, and any other number of them
+pub exchanged_two : (args : List Typed) (first : Typed) → length args ≡ 2 → slice_get args 0 ≡ Some first → remove args 0 ++ first ∷ [] ≡ exchanged args
+exchanged_two [] first h e = cc
+exchanged_two (a ∷ []) first h e = cc
+exchanged_two (a ∷ b ∷ []) first h e = cc
+exchanged_two (a ∷ b ∷ c ∷ more) first h e = absurd (omega (arith, h))
+
+pub exchanged_other : (args : List Typed) → (length args ≡ 2 → ⊥) → args ≡ exchanged args
+exchanged_other [] h = refl
+exchanged_other (a ∷ []) h = refl
+exchanged_other (a ∷ b ∷ []) h = absurd (h refl)
+exchanged_other (a ∷ b ∷ c ∷ more) h = refl
 
 -- what an operator and a quantifier make of what was read
 pub operation_read : (o : Op) (trees : List Tree) (scope : List Binder) (args : List Typed) → is_negation o (length trees) ≡ false → Some args ≡ typed_all (drop 1 trees) scope → applied o args ≡ operation o (beside (drop 1 trees)) scope

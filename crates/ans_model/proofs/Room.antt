@@ -4,7 +4,7 @@ use Rattle.chc_sexpr.specs.declared.tree.Tree.{Tree}
 use Rattle.chc_sexpr.specs.declared.tree.Tree.TheVariants.{Group}
 use Rattle.ans_model.specs.Counts.{count, count_all, HasRoom}
 use Rattle.ans_model.specs.Scopes.{Binder, binders_of, flat}
-use Rattle.ans_model.specs.Shapes.{group_of}
+use Rattle.chc_sexpr.specs.Shapes.{group_of}
 use Rattle.ans_model.proofs.Reading.{length-push, count_at, count_two, binders_room, count_inner, count_parts}
 use Rattle.ans_model.proofs.TypedLaws.{count-Group}
 

@@ -21,14 +21,16 @@ use Rattle.chc_terms.specs.declared.term.Term.TheVariants as term
 use Rattle.chc_terms.specs.Sorted.{Context, sort_of, sorts_of, sorts_under, op_sort, op_fits, when, are_truths, equation_sort, same_sort, same_sorts, all_some, quantifier_sort, sort_fits, sorts_fit, is_declared_step, sort_depth, sort_depth_step}
 use Rattle.chc_terms.proofs.SameSort.{same_from_test, same_sorts_from_test, same_itself, both_true}
 use Rattle.chc_terms.proofs.SortLaws.{sort_of-Var, sort_of-Num, sort_of-Lit, sort_of-App, sort_of-Quant, sorts_fit-Var, sorts_fit-Num, sorts_fit-Lit, sorts_fit-App, sorts_fit-Quant}
-use Rattle.ans_model.specs.Bodies.{Reading, number, literal_of, symbol_term, op_named, applied, negated, negation, operation, quantified, kind_of, quantification, headed, group_term, beside, typed_of, typed_all, is_read_op}
+use Rattle.ans_model.specs.Bodies.{Reading, number, literal_of, symbol_term, op_named, turned_named, turned, exchanged, named_term, applied, negated, negation, operation, quantified, kind_of, quantification, headed, group_term, beside, typed_of, typed_all, is_read_op}
 use Rattle.ans_model.specs.Models.{is_answer_sort, is_answer_op, is_answer_number, are_bound_sorts, is_answer_step, is_answer_term}
-use Rattle.ans_model.specs.Readings.{◌>>=◌}
+use Rattle.chc_sexpr.specs.Readings.{◌>>=◌}
 use Rattle.ans_model.specs.Scopes.{Binder, sorts_in, sort_named, sort_written, binder_parts, binder_at, binder_of, with_binder, with_binder_of, binders_after, variable_from, variable_of, binders_of}
-use Rattle.ans_model.specs.Shapes.{is_numeral_value, numeral_value, numeral_at, numeral_of, symbol_of, word_of, group_of}
+use Rattle.chc_sexpr.specs.Shapes.{symbol_of, word_of, group_of}
+use Rattle.ans_model.specs.Numerals.{is_numeral_value, numeral_value, numeral_at, numeral_of}
 use Rattle.ans_model.specs.declared.typed.Typed.{Typed}
 use Rattle.ans_model.proofs.Outcomes.{bind_some, map_some, cond_some, or_some, none_some, same_some}
-use Rattle.ans_model.proofs.Reading.{application_all}
+use Rattle.std.proofs.lemmas.Bool.{false≢true}
+use Rattle.ans_model.proofs.Reading.{application_all, turned_all}
 use Rattle.ans_model.proofs.Scoping.{variable}
 use Rattle.ans_model.proofs.TypedLaws.{typed_of-Symbol, typed_of-Word, typed_of-Keyword, typed_of-Numeral, typed_of-Text, typed_of-Other, typed_of-Group}
 
@@ -353,6 +355,46 @@ module _ (sig : Signature) (preds : List (List Sort)) (defs : List FunSort) wher
       chain true p rest r more e = subst (λ q. is_read_op q ≡ true) (same_some p o e) r
       chain false p rest r more e = more e
 
+  turned_op : (name : List ℕ) (o : Op) → turned_named name ≡ Some o → is_read_op o ≡ true
+  turned_op name o h =
+      chain (bytes_eq name (codes ">=")) op.Le _ refl (chain (bytes_eq name (codes ">")) op.Lt None refl (λ e. absurd (none_some o e))) h
+    where
+      chain : (b : Bool) (p : Op) (rest : Option Op) → is_read_op p ≡ true → (rest ≡ Some o → is_read_op o ≡ true) → cond b (Some p) rest ≡ Some o → is_read_op o ≡ true
+      chain true p rest r more e = subst (λ q. is_read_op q ≡ true) (same_some p o e) r
+      chain false p rest r more e = more e
+
+  -- terms exchanged are as good
+  exchanged_good : (vars : List Sort) (args : List Typed) → AllGood vars args → AllGood vars (exchanged args)
+  exchanged_good vars [] all = all
+  exchanged_good vars (a ∷ []) all = all
+  exchanged_good vars (a ∷ b ∷ []) all = record {
+    sorted = both_sorts (sort_of cx a.term vars) (sort_of cx b.term vars) a.sort b.sort all.sorted;
+    fits = both_true (sorts_fit sig a.term) (sorts_fit sig b.term) all.fits;
+    answer = both_true (is_answer_term a.term) (is_answer_term b.term) all.answer;
+  }
+    where
+      both_sorts : (o p : Option Sort) (s r : Sort) → all_some (o ∷ p ∷ []) ≡ Some (s ∷ r ∷ []) → all_some (p ∷ o ∷ []) ≡ Some (r ∷ s ∷ [])
+      both_sorts None p s r e = cc
+      both_sorts (Some x) None s r e = cc
+      both_sorts (Some x) (Some y) s r e = cc
+
+      both_true : (x y : Bool) → list_all (λ b. b) (x ∷ y ∷ []) ≡ true → list_all (λ b. b) (y ∷ x ∷ []) ≡ true
+      both_true true true e = refl
+      both_true true false e = e
+      both_true false y e = absurd (false≢true e)
+  exchanged_good vars (a ∷ b ∷ c ∷ more) all = all
+
+  turned_good : (o : Op) (trees : List Tree) → is_read_op o ≡ true → AllByRecursion (λ t. ReadsGood (typed_of t)) trees → ReadsGood (turned o (beside trees))
+  turned_good o trees r held scope t h =
+      let read = bind_some (typed_all trees scope) (λ args. applied o (exchanged args)) t (sym (turned_all o trees scope) ∙ h) in
+      applied_good (sorts_in scope) o (exchanged read.0) t r (exchanged_good (sorts_in scope) read.0 (all_read trees held scope read.0 read.1)) read.2
+
+  named_read : (name : List ℕ) (o : Option Op) → op_named name ≡ o → (trees : List Tree) → AllByRecursion (λ t. ReadsGood (typed_of t)) trees → ReadsGood (named_term o name (beside trees))
+  named_read name (Some o) e trees held scope t h = operation_read o trees (named_op name o e) held scope t h
+  named_read name None e trees held scope t h =
+      let p = bind_some (turned_named name) (λ p. turned p (beside trees) scope) t h in
+      turned_good p.0 trees (turned_op name p.0 p.1) held scope t p.2
+
   quantification_read : (k : Kind) (trees : List Tree) → AllByRecursion (λ t. ReadsGood (typed_of t)) trees → ReadsGood (quantification k (beside trees))
   quantification_read k [] held scope t h = absurd (none_some t h)
   quantification_read k (x ∷ []) held scope t h = absurd (none_some t h)
@@ -368,12 +410,8 @@ module _ (sig : Signature) (preds : List (List Sort)) (defs : List FunSort) wher
   quantification_read k (a ∷ b ∷ c ∷ more) held scope t h = absurd (none_some t h)
 
   headed_read : (name word : Option (List ℕ)) (trees : List Tree) → AllByRecursion (λ t. ReadsGood (typed_of t)) trees → ReadsGood (headed name word (beside trees))
-  headed_read (Some name) None trees held scope t h =
-      let o = bind_some (op_named name) (λ o. operation o (beside trees) scope) t h in
-      operation_read o.0 trees (named_op name o.0 o.1) held scope t o.2
-  headed_read (Some name) (Some word) trees held scope t h =
-      let o = bind_some (op_named name) (λ o. operation o (beside trees) scope) t h in
-      operation_read o.0 trees (named_op name o.0 o.1) held scope t o.2
+  headed_read (Some name) None trees held scope t h = named_read name (op_named name) refl trees held scope t h
+  headed_read (Some name) (Some word) trees held scope t h = named_read name (op_named name) refl trees held scope t h
   headed_read None (Some word) trees held scope t h =
       let k = bind_some (kind_of word) (λ k. quantification k (beside trees) scope) t h in
       quantification_read k.0 trees held scope t k.2

@@ -20,9 +20,9 @@ use Rattle.chc_state.specs.States.{StateView}
 use Rattle.chc_state.specs.Definitions.{Defines, DefinedAs, IsPredicateOf, IsDefinition, fun_sort, context_before}
 use Rattle.ans_model.specs.Bodies.{typed_of}
 use Rattle.ans_model.specs.Models.{is_small, closed_over, body_at, definition_over, definition_parts, definition_at, definition_of, named, Named, takes_sorts, is_vacant, with_definition, with_named, with_tree, defs_after, number_of, no_entries, no_definitions, is_defined, is_settled, are_defined, complete, without_model, defs_in, defs_of, is_answer_sort, is_answer_term, IsAnswerDef, IsAnswer}
-use Rattle.ans_model.specs.Readings.{Gives, ◌>>=◌}
+use Rattle.chc_sexpr.specs.Readings.{Gives, ◌>>=◌}
 use Rattle.ans_model.specs.Scopes.{Binder, sorts_in, binders_of}
-use Rattle.ans_model.specs.Shapes.{symbol_of, group_of, is_symbol}
+use Rattle.chc_sexpr.specs.Shapes.{symbol_of, group_of, is_symbol}
 use Rattle.ans_model.specs.declared.typed.Typed.{Typed}
 use Rattle.ans_model.proofs.Outcomes.{bind_some, map_some, cond_some, none_some, same_some}
 use Rattle.ans_model.proofs.Sorting.{Good, binders_sorts, sort_good, sorts_good, tree_read}

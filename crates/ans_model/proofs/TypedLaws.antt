@@ -7,7 +7,7 @@ use Rattle.chc_sexpr.specs.declared.tree.Tree.TheVariants.{Symbol, Word, Keyword
 use Rattle.ans_model.specs.Bodies.{Reading, number, symbol_term, group_term, typed_step, typed_of, beside}
 use Rattle.ans_model.specs.Counts.{count, count_step, count_all}
 use Rattle.ans_model.specs.Scopes.{Binder}
-use Rattle.ans_model.specs.Shapes.{numeral_value}
+use Rattle.ans_model.specs.Numerals.{numeral_value}
 use Rattle.ans_model.specs.declared.typed.Typed.{Typed}
 
 module _ (scope : List Binder) where

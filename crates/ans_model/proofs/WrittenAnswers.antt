@@ -26,8 +26,8 @@ use Rattle.chc_print.specs.Script.{script_names}
 use Rattle.chc_print.proofs.Room.{binders_joined}
 use Rattle.ans_model.specs.Texts.{definition_text, definitions_text, lines_of_defs, AreOwners, IsDefsText}
 use Rattle.ans_model.specs.Models.{IsAnswer, SaysModel, named, takes_sorts, is_vacant, with_definition, with_named, defs_after, no_definitions, are_defined, complete, without_model, defs_in, defs_of}
-use Rattle.ans_model.specs.Readings.{◌>>=◌}
-use Rattle.ans_model.specs.Shapes.{group_of}
+use Rattle.chc_sexpr.specs.Readings.{◌>>=◌}
+use Rattle.chc_sexpr.specs.Shapes.{group_of}
 use Rattle.ans_model.proofs.WrittenForms.{group_of-Group}
 use Rattle.ans_model.proofs.WrittenNames.{IsSymbolOf, bare_writes}
 use Rattle.ans_model.proofs.WrittenTables.{number_of_name, below, none_below, vacant_below, set_below, all_below}

@@ -15,9 +15,9 @@ use Rattle.chc_terms.proofs.SameSort.{same_from_test}
 use Rattle.chc_print.specs.Prefix.{marked}
 use Rattle.chc_print.specs.Texts.{Names, spaced, joined, sort_text, sort_step, variable_text, binder_text, binder_texts}
 use Rattle.ans_model.specs.Models.{is_answer_sort}
-use Rattle.ans_model.specs.Readings.{◌>>=◌}
+use Rattle.chc_sexpr.specs.Readings.{◌>>=◌}
 use Rattle.ans_model.specs.Scopes.{Binder, sort_named, sort_written, binder_at, binder_parts, binder_of, with_binder, binders_after, binders_of}
-use Rattle.ans_model.specs.Shapes.{symbol_of}
+use Rattle.chc_sexpr.specs.Shapes.{symbol_of}
 use Rattle.ans_model.proofs.WrittenForms.{symbol_of-Symbol, group_of-Group}
 use Rattle.ans_model.proofs.WrittenNames.{IsSymbolOf, bare_writes, variable_writes}
 use Rattle.ans_model.proofs.WrittenScopes.{variable_name, numbered, numbered-append, binds_none, later_foreign}

@@ -17,9 +17,9 @@ use Rattle.chc_print.specs.Symbols.{symbol_text}
 use Rattle.chc_print.specs.Texts.{Names, joined, sort_text, binder_texts, term_text}
 use Rattle.ans_model.specs.Texts.{definition_text}
 use Rattle.ans_model.specs.Models.{IsAnswerDef, is_small, most_nodes, most_depth, named, body_at, definition_over, definition_parts, definition_at, definition_of}
-use Rattle.ans_model.specs.Readings.{◌>>=◌}
+use Rattle.chc_sexpr.specs.Readings.{◌>>=◌}
 use Rattle.ans_model.specs.Scopes.{sorts_in}
-use Rattle.ans_model.specs.Shapes.{symbol_of, is_name, is_symbol}
+use Rattle.chc_sexpr.specs.Shapes.{symbol_of, is_name, is_symbol}
 use Rattle.ans_model.specs.Bodies.{typed_of}
 use Rattle.ans_model.proofs.WrittenForms.{symbol_of-Group, group_of-Group}
 use Rattle.ans_model.proofs.WrittenNames.{IsSymbolOf, bare_writes, name_writes}

@@ -4,7 +4,8 @@ use Rattle.std.proofs.lemmas.Bool.{lt-ltb}
 use Rattle.chc_sexpr.specs.declared.tree.Tree.{Tree}
 use Rattle.chc_sexpr.specs.declared.tree.Tree.TheVariants.{Symbol, Word, Numeral, Group, outs-Symbol, outs-Word, outs-Numeral, outs-Group}
 use Rattle.chc_sexpr.proofs.Folds.{para-Symbol, para-Numeral, para-Group}
-use Rattle.ans_model.specs.Shapes.{symbol_at, symbol_of, word_at, word_of, numeral_value, numeral_at, numeral_of, group_at, group_of}
+use Rattle.chc_sexpr.specs.Shapes.{symbol_at, symbol_of, word_at, word_of, group_at, group_of}
+use Rattle.ans_model.specs.Numerals.{numeral_value, numeral_at, numeral_of}
 use Rattle.ans_model.specs.Bodies.{Reading, symbol_term, number, group_term, typed_step, typed_of}
 use Rattle.ans_model.specs.Scopes.{Binder}
 

@@ -16,7 +16,7 @@ use Rattle.chc_print.specs.Texts.{op_text, kind_text}
 use Rattle.ans_model.specs.Bodies.{Reading, operation, application, headed, kind_of}
 use Rattle.ans_model.specs.Scopes.{Binder}
 use Rattle.ans_model.specs.Models.{is_answer_op}
-use Rattle.ans_model.specs.Shapes.{symbol_of, word_of}
+use Rattle.chc_sexpr.specs.Shapes.{symbol_of, word_of}
 use Rattle.ans_model.proofs.WrittenForms.{symbol_of-Word, word_of-Word}
 use Rattle.ans_model.proofs.WrittenNames.{IsSymbolOf, IsWordOf, bare_writes, word_writes}
 use Rattle.ans_model.proofs.WrittenBinders.{symbol_named}

@@ -8,9 +8,9 @@ use Rattle.chc_terms.specs.declared.term.Kind.{Kind}
 use Rattle.chc_terms.specs.declared.term.Term.{Term}
 use Rattle.chc_terms.specs.Sorted.{quantifier_sort}
 use Rattle.ans_model.specs.Bodies.{Reading, operation, quantification, headed, beside, typed_of}
-use Rattle.ans_model.specs.Readings.{◌>>=◌}
+use Rattle.chc_sexpr.specs.Readings.{◌>>=◌}
 use Rattle.ans_model.specs.Scopes.{Binder}
-use Rattle.ans_model.specs.Shapes.{symbol_of, word_of}
+use Rattle.chc_sexpr.specs.Shapes.{symbol_of, word_of}
 use Rattle.ans_model.specs.declared.typed.Typed.{Typed}
 use Rattle.ans_model.proofs.WrittenForms.{typed_of-Group}
 use Rattle.ans_model.proofs.WrittenOps.{NamesOp, SaysKind}

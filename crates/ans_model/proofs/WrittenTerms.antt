@@ -29,9 +29,9 @@ use Rattle.chc_print.proofs.Room.{binders_joined}
 use Rattle.ans_model.specs.Bodies as body
 use Rattle.ans_model.specs.Bodies.{beside, literal_of, negation, typed_of}
 use Rattle.ans_model.specs.Models.{is_answer_sort, is_answer_op, is_answer_number, are_bound_sorts, is_answer_term}
-use Rattle.ans_model.specs.Readings.{◌>>=◌}
+use Rattle.chc_sexpr.specs.Readings.{◌>>=◌}
 use Rattle.ans_model.specs.Scopes.{Binder, variable_of}
-use Rattle.ans_model.specs.Shapes.{numeral_of}
+use Rattle.ans_model.specs.Numerals.{numeral_of}
 use Rattle.ans_model.specs.declared.typed.Typed.{Typed}
 use Rattle.ans_model.proofs.WrittenForms.{typed_of-Symbol, typed_of-Numeral, numeral_of-Numeral}
 use Rattle.ans_model.proofs.WrittenNames.{IsSymbolOf, IsNumeralOf, bare_writes, numeral_writes}

@@ -13,9 +13,10 @@ use Rattle.chc_terms.specs.declared.term.Kind.{Kind}
 use Rattle.chc_terms.specs.declared.term.Kind.TheVariants as kind
 use Rattle.chc_terms.specs.declared.term.Term.TheVariants as term
 use Rattle.chc_terms.specs.Sorted.{op_sort, all_some, quantifier_sort}
-use Rattle.ans_model.specs.Readings.{◌>>=◌}
+use Rattle.chc_sexpr.specs.Readings.{◌>>=◌}
 use Rattle.ans_model.specs.Scopes.{Binder, sorts_in, variable_of, binders_of}
-use Rattle.ans_model.specs.Shapes.{symbol_of, word_of, numeral_of, numeral_value}
+use Rattle.chc_sexpr.specs.Shapes.{symbol_of, word_of}
+use Rattle.ans_model.specs.Numerals.{numeral_of, numeral_value}
 use Rattle.ans_model.specs.declared.typed.Typed.{Typed}
 
 -- the term that a tree stands for in a scope, and its sort
@@ -91,9 +92,29 @@ quantification k (binders ∷ []) scope = None
 quantification k (binders ∷ body ∷ []) scope = binders_of binders.0 >>= (λ bs. body.1 (scope ++ bs) >>= quantified k bs)
 quantification k (a ∷ b ∷ c ∷ more) scope = None
 
+-- the comparison of a name that is read with its two sides exchanged
+abbrev pub turned_named : List ℕ → Option Op
+turned_named name = cond (bytes_eq name (codes ">=")) (Some op.Le) (cond (bytes_eq name (codes ">")) (Some op.Lt) None)
+
+-- two terms, the second one first; any other number of terms as they are
+abbrev pub exchanged : List Typed → List Typed
+exchanged [] = []
+exchanged (a ∷ []) = a ∷ []
+exchanged (a ∷ b ∷ []) = b ∷ a ∷ []
+exchanged (a ∷ b ∷ c ∷ more) = a ∷ b ∷ c ∷ more
+
+-- a comparison on trees beside their readings, its two sides exchanged
+abbrev pub turned : Op → List (Tree × Reading) → Reading
+turned o trees scope = all_some (map (λ (t : Tree × Reading). t.1 scope) trees) >>= (λ args. applied o (exchanged args))
+
+-- the term of a name, which is an operator's or that of a comparison turned round
+abbrev pub named_term : Option Op → List ℕ → List (Tree × Reading) → Reading
+named_term None name args scope = turned_named name >>= (λ o. turned o args scope)
+named_term (Some o) name args scope = operation o args scope
+
 -- the term of a group by its head, which is an operator's name or a quantifier's word
 abbrev pub headed : Option (List ℕ) → Option (List ℕ) → List (Tree × Reading) → Reading
-headed (Some name) word args scope = op_named name >>= (λ o. operation o args scope)
+headed (Some name) word args scope = named_term (op_named name) name args scope
 headed None (Some word) args scope = kind_of word >>= (λ k. quantification k args scope)
 headed None None args scope = None
 

@@ -18,9 +18,9 @@ use Rattle.chc_state.specs.declared.defs.Def.{Def}
 use Rattle.chc_state.specs.declared.defs.Defs.{Defs}
 use Rattle.chc_state.specs.States.{StateView}
 use Rattle.ans_model.specs.Bodies.{typed_of}
-use Rattle.ans_model.specs.Readings.{◌>>=◌}
+use Rattle.chc_sexpr.specs.Readings.{◌>>=◌}
 use Rattle.ans_model.specs.Scopes.{Binder, sorts_in, binders_of}
-use Rattle.ans_model.specs.Shapes.{symbol_of, group_of, is_symbol}
+use Rattle.chc_sexpr.specs.Shapes.{symbol_of, group_of, is_symbol}
 pub use Rattle.ans_model.specs.declared.definition.Named.{Named}
 use Rattle.ans_model.specs.declared.typed.Typed.{Typed}
 pub use Rattle.ans_model.specs.Texts.{IsDefsText}

@@ -7,8 +7,8 @@ use Rattle.chc_sorts.specs.declared.sort.Sort.{Sort}
 use Rattle.chc_sorts.specs.declared.sort.Sort.TheVariants as sort
 use Rattle.chc_sexpr.specs.declared.tree.Tree.{Tree}
 use Rattle.chc_terms.specs.declared.term.Term.TheVariants as term
-use Rattle.ans_model.specs.Readings.{◌>>=◌}
-use Rattle.ans_model.specs.Shapes.{symbol_of, group_of}
+use Rattle.chc_sexpr.specs.Readings.{◌>>=◌}
+use Rattle.chc_sexpr.specs.Shapes.{symbol_of, group_of}
 use Rattle.ans_model.specs.declared.typed.Typed.{Typed}
 
 -- a variable's name and its sort

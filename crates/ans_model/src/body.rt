@@ -6,18 +6,18 @@ ghost use Rattle.std.specs.Option.{option_map};
 ghost use Rattle.chc_sorts.specs.declared.sort.Sort.TheVariants.{Bool as sort_bool, Int as sort_int};
 ghost use Rattle.chc_sorts.specs.declared.op.Op.TheVariants.{Sub as op_sub};
 ghost use Rattle.chc_terms.specs.Sorted.{are_truths, equation_sort, quantifier_sort, same_sort, same_sorts, when};
-ghost use Rattle.ans_model.specs.Bodies.{applied, beside, group_term, is_read_op, kind_of, literal_of, negated, negation, number, op_named, operation, quantification, quantified, quantified_over, quantified_under, is_negation, sort_on, symbol_term, typed_all, typed_of};
+ghost use Rattle.ans_model.specs.Bodies.{applied, beside, exchanged, group_term, is_read_op, kind_of, literal_of, negated, negation, number, op_named, operation, quantification, quantified, quantified_over, quantified_under, is_negation, sort_on, symbol_term, turned, turned_named, typed_all, typed_of};
 ghost use Rattle.ans_model.specs.Counts.{count, count_all, HasRoom};
 ghost use Rattle.ans_model.specs.Heads.{group_under, IsReadHead};
-ghost use Rattle.ans_model.specs.Readings.{Gives};
+ghost use Rattle.chc_sexpr.specs.Readings.{Gives};
 ghost use Rattle.ans_model.specs.Scopes.{Binder, flat, sorts_in};
-ghost use Rattle.ans_model.specs.Shapes.{numeral_of, numeral_value};
+ghost use Rattle.ans_model.specs.Numerals.{numeral_of, numeral_value};
 
 use crate::scope::{Binders, innermost, read_binders};
-use crate::shape::{numeral_of, numeral_value, symbol_of, word_of};
+use crate::numeral::{numeral_of, numeral_value};
 use crate::sorts::same_sort;
 use crate::typed::Typed;
-use chc_sexpr::Tree;
+use chc_sexpr::{Tree, symbol_of, word_of};
 use chc_sorts::{Boxed, List, NoMemory, Op, Sort, copy_sorts};
 use chc_terms::{Kind, Term};
 use std::alloc::Global;
@@ -78,6 +78,20 @@ fn op_named(name: &[u8]) -> Option<Op>
         return Some(Op::Le);
     }
     if name == b"<".as_slice() {
+        return Some(Op::Lt);
+    }
+    None
+}
+
+/// The comparison of a name that is read with its two sides exchanged.
+fn turned_named(name: &[u8]) -> Option<Op>
+    ensures value { result ≡ turned_named name.now }
+    ensures read { IfSome result (λ o. IsTrue (is_read_op o)) }
+{
+    if name == b">=".as_slice() {
+        return Some(Op::Le);
+    }
+    if name == b">".as_slice() {
         return Some(Op::Lt);
     }
     None
@@ -219,6 +233,27 @@ fn applied(alloc: Global, op: Op, args: List<Typed>) -> Result<Option<Typed>, No
     }))
 }
 
+/// Two terms, the second one first; any other number of terms as they are.
+fn exchanged(args: List<Typed>) -> Result<List<Typed>, NoMemory>
+    ensures { IfOk result (λ turned. turned ≡ exchanged args) }
+{
+    let mut args = args;
+    if args.len() == 2 {
+        let first = args.remove(0);
+        args.push(first)?;
+    }
+    Ok(args)
+}
+
+/// An operator on terms, of which two have their places exchanged.
+fn applied_turned(alloc: Global, op: Op, args: List<Typed>) -> Result<Option<Typed>, NoMemory>
+    requires { IsTrue (is_read_op op) }
+    ensures { Gives result (applied op (exchanged args)) }
+{
+    let args = exchanged(args)?;
+    applied(alloc, op, args)
+}
+
 /// 0 less the term.
 fn negated(alloc: Global, term: Typed) -> Result<Option<Typed>, NoMemory>
     ensures { Gives result (negated term) }
@@ -269,6 +304,8 @@ fn is_negation(op: &Op, trees: &[Tree]) -> bool
 /// What the first tree of a group says of the group.
 enum Head {
     Operator(Op),
+    /// A comparison whose two sides are exchanged.
+    Turned(Op),
     Quantifier(Kind),
     Neither,
 }
@@ -284,7 +321,10 @@ fn head_of(trees: &[Tree]) -> Head
     if let Some(name) = symbol_of(head) {
         return match op_named(name) {
             Some(op) => Head::Operator(op),
-            None => Head::Neither,
+            None => match turned_named(name) {
+                Some(op) => Head::Turned(op),
+                None => Head::Neither,
+            },
         };
     }
     match word_of(head) {
@@ -360,6 +400,7 @@ fn read_group(
 {
     match head_of(trees) {
         Head::Operator(op) => read_operation(alloc, scope, op, trees),
+        Head::Turned(op) => read_turned(alloc, scope, op, trees),
         Head::Quantifier(kind) => read_quantification(alloc, scope, kind, trees),
         Head::Neither => Ok(None),
     }
@@ -383,6 +424,25 @@ fn read_operation(
     }
     match read_args(alloc, scope, trees)? {
         Some(args) => applied(alloc, op, args),
+        None => Ok(None),
+    }
+}
+
+/// A comparison on the trees behind the first one, its two sides exchanged.
+#[cycle(typed)]
+fn read_turned(
+    alloc: Global,
+    scope: &mut List<Binders>,
+    op: Op,
+    trees: &[Tree],
+) -> Result<Option<Typed>, NoMemory>
+    requires read { IsTrue (is_read_op op) }
+    requires room { HasRoom (length (flat scope.old)) (count_all trees.now) }
+    ensures value { Gives result (turned op (beside (drop 1 trees.now)) (flat scope.old)) }
+    ensures kept { OnOk result (scope.new ≡ scope.old) }
+{
+    match read_args(alloc, scope, trees)? {
+        Some(args) => applied_turned(alloc, op, args),
         None => Ok(None),
     }
 }

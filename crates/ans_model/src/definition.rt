@@ -3,15 +3,14 @@
 ghost use Rattle.std.specs.Prelude.{◌≡◌, ◌+◌, length, IfOk};
 ghost use Rattle.ans_model.specs.Counts.{count, HasRoom};
 ghost use Rattle.ans_model.specs.Models.{closed_over, definition_of, definition_over, definition_parts, is_small};
-ghost use Rattle.ans_model.specs.Readings.{Gives};
+ghost use Rattle.chc_sexpr.specs.Readings.{Gives};
 ghost use Rattle.ans_model.specs.Scopes.{sorts_in};
 
 use crate::body::read_typed;
 use crate::scope::{Binders, read_binders};
-use crate::shape::{group_of, is_symbol, symbol_of};
 use crate::sorts::same_sort;
 use crate::typed::Typed;
-use chc_sexpr::Tree;
+use chc_sexpr::{Tree, group_of, is_symbol, symbol_of};
 use chc_sorts::{List, Name, NoMemory, Sort, copy_sorts};
 use chc_state::Def;
 use chc_terms::{Term, depth, size};

@@ -4,9 +4,9 @@
 mod body;
 mod definition;
 mod names;
+mod numeral;
 mod read;
 mod scope;
-mod shape;
 mod sorts;
 mod text;
 mod typed;

@@ -5,13 +5,12 @@ ghost use Rattle.chc_sexpr.specs.Names.{AreNames};
 ghost use Rattle.chc_state.specs.Definitions.{Defines};
 ghost use Rattle.ans_model.specs.Counts.{count, count_all, HasRoom};
 ghost use Rattle.ans_model.specs.Models.{are_defined, complete, is_defined, is_settled, defs_after, defs_in, defs_of, is_vacant, no_definitions, no_entries, takes_sorts, with_definition, with_named, with_tree, without_model, IsModelReading, IsAnswer};
-ghost use Rattle.ans_model.specs.Readings.{Gives};
+ghost use Rattle.chc_sexpr.specs.Readings.{Gives};
 
 use crate::definition::{Named, read_definition};
 use crate::names::{NameTable, table_of};
-use crate::shape::{group_of, is_symbol};
 use crate::sorts::same_sorts;
-use chc_sexpr::{TextErr, Tree, read_trees};
+use chc_sexpr::{TextErr, Tree, group_of, is_symbol, read_trees};
 use chc_sorts::{List, Name, NoMemory, Sort};
 use chc_state::{Def, Defs, PredDecl, State};
 use std::alloc::Global;

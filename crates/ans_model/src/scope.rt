@@ -3,12 +3,11 @@
 ghost use Rattle.std.specs.Prelude.{◌≡◌, ◌<◌, ◌≤◌, ◌^◌, ◌+◌, ℕ, None, Some, false, [], ◌∷◌, ◌++◌, length, MatchOption, IfOk, IfSome};
 ghost use Rattle.chc_terms.specs.declared.term.Term.TheVariants.{Var};
 ghost use Rattle.ans_model.specs.Counts.{count, count_all};
-ghost use Rattle.ans_model.specs.Readings.{Gives};
+ghost use Rattle.chc_sexpr.specs.Readings.{Gives};
 ghost use Rattle.ans_model.specs.Scopes.{Binder, binder_of, binder_parts, binders_after, binders_of, binds, flat, sort_named, sort_written, sorts_in, variable_from, variable_of, with_binder_of};
 
 use crate::names::NameTable;
-use crate::shape::{group_of, symbol_of};
-use chc_sexpr::Tree;
+use chc_sexpr::{Tree, group_of, symbol_of};
 use chc_sorts::{List, NoMemory, Sort};
 use std::alloc::Global;
 use std::marker::Model;

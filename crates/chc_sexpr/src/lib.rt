@@ -10,7 +10,7 @@ mod token;
 mod tree;
 
 pub use fault::{Fault, TextErr, TextFault};
-pub use shape::{form_of, group_of, is_symbol, is_word, pair_of, symbol_of};
+pub use shape::{form_of, group_of, is_symbol, is_word, pair_of, symbol_of, word_of};
 pub use text::{first_fault_is_one, read_trees};
 pub use token::{is_reserved, is_simple_symbol};
 pub use tree::{Tree, Trees};

@@ -15,6 +15,16 @@ pub fn symbol_of(tree: &Tree) -> Option<&[u8]>
     }
 }
 
+/// A reserved word.
+pub fn word_of(tree: &Tree) -> Option<&[u8]>
+    ensures { option_copied result ≡ word_of tree.now }
+{
+    match tree {
+        Tree::Word(_, word) => Some(word.bytes()),
+        _ => None,
+    }
+}
+
 /// Whether the tree is the symbol of that name.
 pub fn is_symbol(tree: &Tree, name: &[u8]) -> bool
     ensures { result ≡ is_symbol name.now tree.now }

@@ -2,10 +2,10 @@ use Rattle.std.proofs.Common.{rules, ◌≡◌, ◌<◌, ◌≤◌, ◌+◌, ◌
 use Rattle.chc_sorts.specs.declared.sort.Sort.{Sort}
 use Rattle.ans_model.specs.Bodies.{beside, operation, group_term, typed_all, typed_of, applied, quantified_under, quantified_over, quantified}
 use Rattle.ans_model.specs.Counts.{count, count_all}
-use Rattle.ans_model.specs.Readings.{Gives, ◌>>=◌}
+use Rattle.chc_sexpr.specs.Readings.{Gives, ◌>>=◌}
 use Rattle.ans_model.specs.Scopes.{Binder, flat, sorts_in}
 use Rattle.ans_model.specs.declared.typed.Typed.{Typed}
-use Rattle.ans_model.proofs.Reading.{flat-push, length-push, count_at, count_two, binders_room, operation_read, operation_unread}
+use Rattle.ans_model.proofs.Reading.{flat-push, length-push, count_at, count_two, binders_room, operation_read, operation_unread, turned_read, turned_unread}
 use Rattle.ans_model.proofs.Room.{room_group, room_one, room_body, room_under}
 use Rattle.ans_model.proofs.TypedLaws.{count-Group}
 use Rattle.ans_model.proofs.body.+typed.Goals as goal
@@ -43,6 +43,17 @@ pub read_operation-returns-in-None-clause-value : goal.read_operation-returns-in
 read_operation-returns-in-None-clause-value t c =
     let read = sym c.in-None.is ∙ c.in_ok-args.ensures.value in
     operation_unread c.args.op c.args.trees.now (flat c.args.scope.now) (sym c.is_negation.ensures ∙ c.if-is_negation.false) read
+
+pub read_turned-returns-in-Some-clause-value : goal.read_turned-returns-in-Some-clause-value
+read_turned-returns-in-Some-clause-value t c =
+    let read = sym c.in-Some.is ∙ c.in_ok-args.ensures.value in
+    subst (Gives c.applied_turned.result) (turned_read c.args.op c.args.trees.now (flat c.args.scope.now) c.in-Some.args read) c.applied_turned.ensures
+
+pub read_turned-returns-in-None-clause-value : goal.read_turned-returns-in-None-clause-value
+read_turned-returns-in-None-clause-value t c =
+    let read = sym c.in-None.is ∙ c.in_ok-args.ensures.value in
+    turned_unread c.args.op c.args.trees.now (flat c.args.scope.now) read
+
 pub read_typed-read_group-requires : goal.read_typed-read_group-requires
 read_typed-read_group-requires t c =
     let counted = ap count c.in-Group.is ∙ count-Group c.in-Group.field-0 c.in-Group.trees in

@@ -23,6 +23,9 @@ decreases-read_group l = 4 * count_all l.trees.now + 3
 abbrev pub decreases-read_operation : goal.decreases-read_operation
 decreases-read_operation l = 4 * count_all l.trees.now + 2
 
+abbrev pub decreases-read_turned : goal.decreases-read_turned
+decreases-read_turned l = 4 * count_all l.trees.now + 2
+
 abbrev pub decreases-read_quantification : goal.decreases-read_quantification
 decreases-read_quantification l = 4 * count_all l.trees.now + 2
 
