@@ -6,6 +6,7 @@ pub mod Reading
 pub mod Room
 pub mod Scoping
 pub mod Sorting
+pub mod Sound
 pub mod SortTests
 pub mod Tables
 pub mod TypedLaws

@@ -158,7 +158,7 @@ each_reading : (trees : List Tree) (scope : List Binder) → map (λ (reading : 
 each_reading [] scope = refl
 each_reading (t ∷ ts) scope = ap (λ l. typed_of t scope ∷ l) (each_reading ts scope)
 
-application_all : (o : Op) (trees : List Tree) (scope : List Binder) → application o (map (λ (t : Tree × Reading). t.1) (beside trees)) scope ≡ (typed_all trees scope >>= applied o)
+pub application_all : (o : Op) (trees : List Tree) (scope : List Binder) → application o (map (λ (t : Tree × Reading). t.1) (beside trees)) scope ≡ (typed_all trees scope >>= applied o)
 application_all o trees scope = ap (λ (l : List (Option Typed)). all_some l >>= applied o) (each_reading trees scope)
 
 -- an operator that isn't a negation
