@@ -231,6 +231,7 @@ fn bodies_are_well_sorted(rt: HostRuntime) {
         b"(forall ((y Int) (|and| Bool)) (or |and| (<= x y)))",
         b"(exists ((x Bool)) x)",
         b"(exists ((true Int)) (<= true x))",
+        b"(not (and (>= x 11) (> 20 x)))",
     ];
     for body in read {
         assert!(rt; is_body(rt.alloc(), body) == Some(true));
@@ -252,6 +253,9 @@ fn bodies_are_well_sorted(rt: HostRuntime) {
         b"(<= x true)",
         b"(< 1 2 3)",
         b"(<= 1)",
+        b"(>= 1)",
+        b"(> 1 2 3)",
+        b"(>= x true)",
         b"(< true (- true))",
         b"(= x (- true))",
         b"(= x (+ 1))",
@@ -285,9 +289,9 @@ fn bodies_are_well_sorted(rt: HostRuntime) {
 fn names_stand_for_the_innermost_variable(rt: HostRuntime) {
     let alloc = rt.alloc();
     let text = b"sat ((define-fun q () Bool false) (define-fun p ((x Int)) Bool
-(and (<= x (- 3)) (exists ((y Int) (x Bool)) (and x (forall ((x Int)) (< (- x) (+ y x))) (= y (- y 1)))) (= x 0))))";
+(and (<= x (- 3)) (exists ((y Int) (x Bool)) (and x (forall ((x Int)) (< (- x) (+ y x))) (= y (- y 1)))) (>= x 0))))";
     let wanted =
-        b"10- false (and (<= x0 -3) (exists 2 (and x2 (forall 1 (< (- 0 x3) (+ x1 x3))) (= x1 (- x1 1)))) (= x0 0))";
+        b"10- false (and (<= x0 -3) (exists 2 (and x2 (forall 1 (< (- 0 x3) (+ x1 x3))) (= x1 (- x1 1)))) (<= 0 x0))";
     match shown(alloc, text) {
         Some(out) => assert!(rt; out.bytes() == wanted.as_slice()),
         None => assert!(rt; false),
