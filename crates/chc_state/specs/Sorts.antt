@@ -1,11 +1,11 @@
--- Well-sorted clauses.
+-- Well-sorted clauses, over predicates whose sorts fit.
 use Rattle.std.specs.Prelude.{ℕ, Bool, true, false, ◌&&◌, List, [], map, Option, Some, None, slice_get}
 use Rattle.std.specs.List.{list_all}
 use Rattle.chc_sorts.specs.declared.sort.Sort.{Sort}
 use Rattle.chc_sorts.specs.declared.sort.Sort.TheVariants as sort
 use Rattle.chc_sorts.specs.Signature.{Signature}
 use Rattle.chc_terms.specs.declared.term.Term.{Term}
-use Rattle.chc_terms.specs.Sorted.{Context, sort_of, sorts_of, same_sort, same_sorts, is_plain}
+use Rattle.chc_terms.specs.Sorted.{Context, sort_of, sorts_of, same_sort, same_sorts, is_plain, sort_fits}
 use Rattle.chc_state.specs.declared.clause.Atom.{Atom}
 use Rattle.chc_state.specs.declared.clause.Clause.{Clause}
 use Rattle.chc_state.specs.declared.clause.PredDecl.{PredDecl}
@@ -43,6 +43,10 @@ abbrev pub is_sorted_clause : Signature → List (List Sort) → Clause → Bool
 is_sorted_clause sig preds c =
     list_all (is_condition sig c.vars) c.conj && list_all (is_sorted_atom sig preds c.vars) c.body && head_all (is_sorted_atom sig preds c.vars) c.head
 
--- whether all the clauses are
+-- whether the sorts of all positions fit the signature
+abbrev pub positions_fit : Signature → List PredDecl → Bool
+positions_fit sig preds = list_all (list_all (sort_fits sig)) (positions preds)
+
+-- whether the sorts of all positions fit, and all the clauses are well sorted
 abbrev pub are_sorted : Signature → List PredDecl → List Clause → Bool
-are_sorted sig preds = list_all (is_sorted_clause sig (positions preds))
+are_sorted sig preds cs = positions_fit sig preds && list_all (is_sorted_clause sig (positions preds)) cs

@@ -1,6 +1,6 @@
 //! States: predicates and clauses within the limits.
 
-ghost use Rattle.std.specs.Prelude.{◌≡◌, ◌<◌, ◌^◌, None, IsTrue, length};
+ghost use Rattle.std.specs.Prelude.{◌≡◌, ◌<◌, ◌≤◌, ◌^◌, None, IsTrue, length};
 ghost use Rattle.chc_state.specs.States.{StateView, uses_live};
 ghost use Rattle.chc_state.specs.Limits.{first_passed};
 ghost use Rattle.chc_state.specs.Sorts.{are_sorted};
@@ -9,8 +9,9 @@ use crate::clause::{Clause, PredDecl};
 use chc_sorts::{List, Sig};
 use std::marker::Model;
 
-/// A signature, predicates, and clauses over them. Every clause is well sorted, its terms have no
-/// quantifier, predicate or call in them, it uses live predicates alone, and all is within the limits.
+/// A signature, predicates, and clauses over them. The sorts of the predicates' positions are of the
+/// signature, and at most 16 deep. Every clause is well sorted, its terms have no quantifier, predicate or
+/// call in them, it uses live predicates alone, and all is within the limits.
 #[derive(Debug, Drop)]
 pub struct State {
     sig: Sig,
@@ -82,9 +83,10 @@ impl State {
         &self.preds
     }
 
-    /// The clauses in order. They are well sorted, use live predicates alone and are within the limits.
+    /// The clauses in order, at most 65,536. They are well sorted, use live predicates alone and are within the limits.
     pub fn clauses(&self) -> &List<Clause>
         ensures value { result.now ≡ self.now.clauses }
+        ensures few { length self.now.clauses ≤ 65536 }
         ensures live { IsTrue (uses_live self.now.preds self.now.clauses) }
         ensures within { first_passed self.now.preds self.now.clauses ≡ None }
         ensures sorted { IsTrue (are_sorted self.now.sig self.now.preds self.now.clauses) }

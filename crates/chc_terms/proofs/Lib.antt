@@ -1,1 +1,5 @@
 pub mod CountLaws
+pub mod Induction
+pub mod HasLaws
+pub mod SortLaws
+pub mod Meanings

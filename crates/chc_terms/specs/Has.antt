@@ -79,14 +79,20 @@ module _ {X : Type 0} (has : X → List Value → Value → Type 0) where
   SomeHas [] env v = ⊥
   SomeHas (x ∷ xs) env v = has x env v ⊎ SomeHas xs env v
 
+  -- the first of three terms chooses between the other two, and that one has the value v
+  abbrev pub ChoiceHas : List X → List Value → Value → Type 0
+  ChoiceHas [] env v = ⊥
+  ChoiceHas (c ∷ []) env v = ⊥
+  ChoiceHas (c ∷ a ∷ []) env v = ⊥
+  ChoiceHas (c ∷ a ∷ b ∷ []) env v = (has c env (value.Bool true) × has a env v) ⊎ (has c env (value.Bool false) × has b env v)
+  ChoiceHas (c ∷ a ∷ b ∷ d ∷ more) env v = ⊥
+
   -- `And` has true where every argument has true, and false where some argument has false; `Or` the
   -- other way round; `Ite` has the value of the branch that the condition chooses
   abbrev pub AppHas : Signature → List WorldEntry → Op → List X → List Value → Value → Type 0
   AppHas sig w op.And xs env v = ((v ≡ value.Bool true) × AllHave xs env (value.Bool true)) ⊎ ((v ≡ value.Bool false) × SomeHas xs env (value.Bool false))
   AppHas sig w op.Or xs env v = ((v ≡ value.Bool false) × AllHave xs env (value.Bool false)) ⊎ ((v ≡ value.Bool true) × SomeHas xs env (value.Bool true))
-  AppHas sig w op.Ite xs env v =
-      (c a b : X) × (xs ≡ c ∷ a ∷ b ∷ [])
-      × ((has c env (value.Bool true) × has a env v) ⊎ (has c env (value.Bool false) × has b env v))
+  AppHas sig w op.Ite xs env v = ChoiceHas xs env v
   AppHas sig w o xs env v = (vs : List Value) × EachHas xs env vs × Applies sig w o vs v
 
   -- a quantifier over values of the sorts, added at the end of the assignment

@@ -1,5 +1,5 @@
 -- What holds of the value of every term.
-use Rattle.std.specs.Prelude.{◌≡◌, ℕ, List, [], Option, Some, IsTrue, slice_get}
+use Rattle.std.specs.Prelude.{◌≡◌, ℕ, List, [], Some, IsTrue, slice_get}
 use Rattle.chc_sorts.specs.declared.sort.Sort.{Sort}
 use Rattle.chc_sorts.specs.declared.sort.Sort.TheVariants as sort
 use Rattle.chc_sorts.specs.Signature.{Signature}
@@ -9,7 +9,7 @@ use Rattle.chc_values.specs.Values.{IsOf, AreOf}
 use Rattle.chc_values.specs.Worlds.{IsWorld}
 use Rattle.chc_terms.specs.declared.fun_sort.FunSort.{FunSort}
 use Rattle.chc_terms.specs.declared.term.Term.{Term}
-use Rattle.chc_terms.specs.Has.{Meaning, Has, silent}
+use Rattle.chc_terms.specs.Has.{Meaning, Has}
 use Rattle.chc_terms.specs.Sorted.{Context, sort_of, is_plain, is_unquantified}
 
 -- of the number k, the meaning gives on values of these sorts at most one value, and one of the result's sort

@@ -1,5 +1,5 @@
 -- The sort of a term, where it is well sorted.
-use Rattle.std.specs.Prelude.{ℕ, ◌+◌, Bool, true, false, not, ◌&&◌, cond, nat_eq, nat_lt, max, List, [], ◌∷◌, ◌++◌, length, map, Option, Some, None, slice_get, is_some}
+use Rattle.std.specs.Prelude.{ℕ, ◌+◌, Bool, true, false, ◌&&◌, cond, nat_eq, nat_lt, List, [], ◌∷◌, ◌++◌, length, map, Option, Some, None, slice_get, is_some}
 use Rattle.std.specs.List.{list_all}
 use Rattle.std.specs.Option.{option_and_then, option_map}
 use Rattle.chc_sorts.specs.declared.sort.Sort.{Sort, Sort-F, fold-Sort, out-Sort}

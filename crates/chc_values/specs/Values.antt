@@ -1,5 +1,6 @@
 -- What the values of a sort are.
 use Rattle.std.specs.Prelude.{◌≡◌, ◌≢◌, ℕ, ℤ, ◌<ℤ◌, List, [], ◌∷◌, map, Some, All, slice_get}
+use Rattle.std.specs.List.{AllByRecursion}
 use Rattle.chc_sorts.specs.declared.sort.Sort.{Sort}
 use Rattle.chc_sorts.specs.declared.sort.Sort.TheVariants as sort
 use Rattle.chc_sorts.specs.declared.sig.Data.{Data}
@@ -35,7 +36,7 @@ LevelOf sig whole is_of (Value-F.Bool b) s = s ≡ sort.Bool
 LevelOf sig whole is_of (Value-F.Int n) s = s ≡ sort.Int
 LevelOf sig whole is_of (Value-F.Data d c xs) s = (sorts : List Sort) × (s ≡ sort.Data d) × HasFields sig d c sorts × EachOf is_of xs sorts
 LevelOf {X} sig whole is_of (Value-F.Array x exceptions) s =
-    (element : Sort) × (s ≡ sort.Array element) × is_of x element × All (λ (e : ℤ × X). is_of e.1 element) exceptions
+    (element : Sort) × (s ≡ sort.Array element) × is_of x element × AllByRecursion (λ (e : ℤ × X). is_of e.1 element) exceptions
     × IsCanonical (whole x) (map (λ (e : ℤ × X). (e.0, whole e.1)) exceptions)
 
 -- the value is of the sort

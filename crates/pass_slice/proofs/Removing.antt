@@ -4,6 +4,8 @@ use Rattle.std.specs.Prelude.{nat_lt, nat_eq, is_none}
 use Rattle.std.specs.List.{filter, list_any, list_all}
 use Rattle.std.proofs.lemmas.Bool.{not_from_false, not-true, or_cases, or_left, and_parts, and_from, false≢true, eq-eqb}
 use Rattle.std.proofs.lemmas.List.Sums.{sum_by-cons}
+use Rattle.chc_sorts.specs.declared.sort.Sort.{Sort}
+use Rattle.chc_terms.specs.Sorted.{sort_fits}
 use Rattle.chc_state.specs.declared.clause.Atom.{Atom}
 use Rattle.chc_state.specs.declared.clause.Clause.{Clause}
 use Rattle.chc_state.specs.declared.clause.PredDecl.{PredDecl}
@@ -12,6 +14,7 @@ use Rattle.chc_state.specs.declared.step.Step.TheVariants as step
 use Rattle.chc_state.specs.States.{StateView, is_live, on_live, head_all, head_any, uses_live}
 use Rattle.chc_state.specs.Limits.{charge, charge_of_args, filled_of_body, is_query, live_count, first_passed}
 use Rattle.chc_state.specs.Meaning.{In}
+use Rattle.chc_state.specs.Sorts.{positions, positions_fit, is_sorted_clause, are_sorted}
 use Rattle.chc_state.specs.Steps.{PredSet, set_of, body_meets, head_meets, is_unreached, is_unneeded, retired, without, after, IsLegal, Applies}
 use Rattle.chc_state.proofs.Members.{In-filtered, kept-passes, all-at, all-from, none-at}
 use Rattle.chc_state.proofs.Limiting.{WithinLimits-from_none, none_from-WithinLimits, WithinLimits-fewer}
@@ -199,3 +202,28 @@ uses_live-after s (step.Unreached ps) h live =
     uses_live-without (set_of ps) s.preds s.clauses (filter (λ c. not (body_meets (set_of ps) c)) s.clauses) live (unreached_out s.clauses (set_of ps) h.meets)
 uses_live-after s (step.Unneeded ps) h live =
     uses_live-without (set_of ps) s.preds s.clauses (filter (λ c. not (head_meets (set_of ps) c)) s.clauses) live (unneeded_out s.clauses (set_of ps) h.meets)
+
+-- predicates keep the sorts of their positions
+positions-retired_all : (set : PredSet) (n : ℕ) (ds : List PredDecl) → positions (retired set n ds) ≡ positions ds
+positions-retired_all set n [] = refl
+positions-retired_all set n (d ∷ ds) = ap (λ sorts. d.sorts ∷ sorts) (positions-retired_all set (n + 1) ds)
+
+pub positions-after : (s : StateView) (x : Step) → positions (after s x).preds ≡ positions s.preds
+positions-after s (step.Unreached ps) = positions-retired_all (set_of ps) 0 s.preds
+positions-after s (step.Unneeded ps) = positions-retired_all (set_of ps) 0 s.preds
+
+-- fewer clauses are well sorted still
+fewer_sorted : (s : StateView) (preds : List PredDecl) (keep : Clause → Bool) → positions preds ≡ positions s.preds → are_sorted s.sig s.preds s.clauses ≡ true → are_sorted s.sig preds (filter keep s.clauses) ≡ true
+fewer_sorted s preds keep same sorted =
+    let was = and_parts (positions_fit s.sig s.preds) (list_all (is_sorted_clause s.sig (positions s.preds)) s.clauses) sorted in
+    let of_positions : List (List Sort) → Bool = λ sorts. list_all (list_all (sort_fits s.sig)) sorts && list_all (is_sorted_clause s.sig sorts) (filter keep s.clauses) in
+    ap of_positions same
+    ∙ and_from (positions_fit s.sig s.preds) (list_all (is_sorted_clause s.sig (positions s.preds)) (filter keep s.clauses)) was.0
+    (all-from (is_sorted_clause s.sig (positions s.preds)) (filter keep s.clauses) (λ c i.
+    all-at (is_sorted_clause s.sig (positions s.preds)) c s.clauses was.1 (In-filtered keep c s.clauses i)))
+
+pub are_sorted-after : (s : StateView) (x : Step) → are_sorted s.sig s.preds s.clauses ≡ true → are_sorted (after s x).sig (after s x).preds (after s x).clauses ≡ true
+are_sorted-after s (step.Unreached ps) sorted =
+    fewer_sorted s (retired (set_of ps) 0 s.preds) (λ c. not (body_meets (set_of ps) c)) (positions-retired_all (set_of ps) 0 s.preds) sorted
+are_sorted-after s (step.Unneeded ps) sorted =
+    fewer_sorted s (retired (set_of ps) 0 s.preds) (λ c. not (head_meets (set_of ps) c)) (positions-retired_all (set_of ps) 0 s.preds) sorted
