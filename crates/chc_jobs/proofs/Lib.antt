@@ -1,4 +1,5 @@
 pub mod Lines
+pub mod Replays
 pub mod SliceRuns
+pub mod Backs
 pub mod RunLaws
-pub mod Fewness
