@@ -2,4 +2,5 @@ pub mod Lines
 pub mod Replays
 pub mod SliceRuns
 pub mod Backs
+pub mod LiftLaws
 pub mod RunLaws
