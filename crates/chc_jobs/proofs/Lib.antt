@@ -4,3 +4,5 @@ pub mod SliceRuns
 pub mod Backs
 pub mod LiftLaws
 pub mod RunLaws
+pub mod NormaliseRuns
+pub mod LiftRuns
