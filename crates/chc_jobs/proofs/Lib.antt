@@ -6,3 +6,4 @@ pub mod LiftLaws
 pub mod RunLaws
 pub mod NormaliseRuns
 pub mod LiftRuns
+pub mod Named
