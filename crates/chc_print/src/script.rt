@@ -1,6 +1,6 @@
 //! The text of a script.
 
-ghost use Rattle.std.specs.Prelude.{◌≡◌, ◌≢◌, ℕ, List, ◌+◌, ◌≤◌, ◌++◌, ◌↔◌, [], codes, map, length, IsTrue, IfOk, OnOk};
+ghost use Rattle.std.specs.Prelude.{◌≡◌, ◌≢◌, ◌+◌, ◌≤◌, ◌++◌, ◌↔◌, [], codes, map, length, IsTrue, IfOk, OnOk};
 ghost use Rattle.std.specs.List.{concat};
 ghost use Rattle.chc_print.specs.Texts.{spaced};
 ghost use Rattle.chc_print.specs.Script.{atom_text, head_text, part_texts, tail_text, matrix_text, closed, clause_text, declaration_text, live_text, declarations_text, lines_of_script, IsScriptText};
@@ -212,10 +212,17 @@ fn text_of(alloc: Global, s: &State, names: &Naming) -> Result<ByteText, NoMemor
 
 /// The text of the script of a state, whose predicates have these names by number, live or not.
 /// A predicate without a name is written with the empty one. The text ends with `(check-sat)`.
-pub fn script_text(_alloc: Global, _s: &State, _names: &List<Name>) -> Result<ByteText, NoMemory>
-    requires { _s.now.sig.datatypes ≡ [] }
-    ensures text { IfOk result (λ text. IsScriptText _s.now _names.now text) }
-    ensures only { IfOk result (λ text. (other : List ℕ) → IsScriptText _s.now _names.now other → other ≡ text) }
+pub fn script_text(alloc: Global, s: &State, names: &List<Name>) -> Result<ByteText, NoMemory>
+    requires { s.now.sig.datatypes ≡ [] }
+    ensures { IfOk result (λ text. IsScriptText s.now names.now text) }
 {
-    Err(NoMemory)
+    let prefix = variable_prefix(alloc, names.as_slice())?;
+    let calls = List::new(alloc);
+    let naming = Naming {
+        sig: s.sig(),
+        preds: names,
+        calls: &calls,
+        prefix: prefix.bytes(),
+    };
+    text_of(alloc, s, &naming)
 }

@@ -3,7 +3,7 @@
 ghost use Rattle.std.specs.Prelude.{◌≡◌, ◌++◌, [], ◌∷◌, codes, decimal, map, OnOk, IfOk};
 ghost use Rattle.std.specs.List.{concat};
 ghost use Rattle.hex.specs.Hex.{encode_lower};
-ghost use Rattle.chc_trace.specs.Traces.{numbers_text, step_line, step_text, in_string, string_text, trace_lines, SaysTrace};
+ghost use Rattle.chc_trace.specs.Traces.{numbers_text, step_line, step_text, in_string, string_text, trace_lines};
 
 use crate::trace::Trace;
 use chc_sorts::{List, NoMemory};
@@ -123,9 +123,15 @@ fn write_source(out: &mut ByteText, source: &[u8; 32]) -> Result<(), NoMemory>
 }
 
 /// The text of a trace.
-pub fn trace_text(_alloc: Global, _t: &Trace) -> Result<ByteText, NoMemory>
-    ensures value { IfOk result (λ text. text ≡ trace_lines _t.now) }
-    ensures again { IfOk result (λ text. SaysTrace text _t.now) }
+pub fn trace_text(alloc: Global, t: &Trace) -> Result<ByteText, NoMemory>
+    ensures { IfOk result (λ text. text ≡ trace_lines t.now) }
 {
-    Err(NoMemory)
+    let mut out = ByteText::new(alloc);
+    out.extend(b"(chc-trace 1)\n")?;
+    write_source(&mut out, &t.source)?;
+    write_steps(&mut out, t.steps.as_slice())?;
+    out.extend(b"(target ")?;
+    write_string(&mut out, t.target.bytes())?;
+    out.extend(b")\n")?;
+    Ok(out)
 }

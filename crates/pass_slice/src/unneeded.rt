@@ -1,17 +1,15 @@
 //! Predicates that no query needs.
 
-ghost use Rattle.std.specs.Prelude.{◌≡◌, ◌↔◌, length, nat_lt, true, false, not, ◌||◌, IsTrue, IfOk, IfErr, MatchOption, filter, nat_eq};
-ghost use Rattle.std.specs.List.{list_all, list_any};
+ghost use Rattle.std.specs.Prelude.{◌≡◌, true, false, not, ◌||◌, IsTrue, IfOk, IfErr, MatchOption, filter, nat_eq};
+ghost use Rattle.std.specs.List.{list_any};
 ghost use Rattle.chc_state.specs.declared.clause.Atom.{Atom};
 ghost use Rattle.chc_state.specs.Steps.{IsLegal, Applies, Finds, is_unneeded, body_meets, head_meets};
-ghost use Rattle.chc_state.specs.Sorts.{positions};
-ghost use Rattle.chc_state.specs.Back.{back, StepLeadsBack};
 ghost use Rattle.chc_state.specs.declared.step.Step.TheVariants as step;
 ghost use Rattle.pass_slice.specs.Tables.{marked, Bounds, Needs, Strikes, AtPlace};
 
 use crate::sets;
 use chc_sorts::{List, NoMemory};
-use chc_state::{Atom, Clause, Defs, PredDecl, State};
+use chc_state::{Atom, Clause, State};
 use std::alloc::Global;
 
 /// The greatest set of live predicates that no query, and no clause that concludes a predicate outside
@@ -180,25 +178,4 @@ fn without_concluders(table: &[bool], clauses: List<Clause>) -> List<Clause>
     let mut kept = clauses.into_vec();
     kept.retain(|c| !sets::head_is_marked(table, c));
     List::from_vec(kept)
-}
-
-/// Whether the step on these predicates may be taken.
-pub fn legal(_alloc: Global, _s: &State, _ps: &List<u32>) -> Result<bool, NoMemory>
-    ensures { IfOk result (λ b. IsTrue b ↔ IsLegal _s.now (step.Unneeded _ps.now)) }
-{
-    Err(NoMemory)
-}
-
-/// The definitions before the step on these predicates, from those after it.
-pub fn back_defs(
-    _alloc: Global,
-    _preds: &List<PredDecl>,
-    _ps: &List<u32>,
-    _d: Defs,
-) -> Result<Defs, NoMemory>
-    requires within { IsTrue (list_all (λ p. nat_lt p (length _d.of)) _ps.now) }
-    ensures value { IfOk result (λ e. e ≡ back (positions _preds.now) (step.Unneeded _ps.now) _d) }
-    ensures leads { IfOk result (StepLeadsBack (positions _preds.now) (step.Unneeded _ps.now) _d) }
-{
-    Err(NoMemory)
 }

@@ -1,16 +1,13 @@
 //! Predicates that no derivation reaches.
 
-ghost use Rattle.std.specs.Prelude.{◌≡◌, ◌↔◌, length, nat_lt, not, ◌||◌, IsTrue, IfOk, IfErr, MatchOption, filter};
-ghost use Rattle.std.specs.List.{list_all};
+ghost use Rattle.std.specs.Prelude.{◌≡◌, not, ◌||◌, IsTrue, IfOk, IfErr, MatchOption, filter};
 ghost use Rattle.chc_state.specs.Steps.{IsLegal, Applies, Finds, is_unreached, body_meets, head_meets};
-ghost use Rattle.chc_state.specs.Sorts.{positions};
-ghost use Rattle.chc_state.specs.Back.{back, StepLeadsBack};
 ghost use Rattle.chc_state.specs.declared.step.Step.TheVariants as step;
 ghost use Rattle.pass_slice.specs.Tables.{marked, Bounds, Reaches, Strikes, AtPlace};
 
 use crate::sets;
 use chc_sorts::{List, NoMemory};
-use chc_state::{Clause, Defs, PredDecl, State};
+use chc_state::{Clause, State};
 use std::alloc::Global;
 
 /// The greatest set of live predicates of which each clause that concludes one has another in its
@@ -194,25 +191,4 @@ fn without_users(table: &[bool], clauses: List<Clause>) -> List<Clause>
     let mut kept = clauses.into_vec();
     kept.retain(|c| !sets::body_is_marked(table, c));
     List::from_vec(kept)
-}
-
-/// Whether the step on these predicates may be taken.
-pub fn legal(_alloc: Global, _s: &State, _ps: &List<u32>) -> Result<bool, NoMemory>
-    ensures { IfOk result (λ b. IsTrue b ↔ IsLegal _s.now (step.Unreached _ps.now)) }
-{
-    Err(NoMemory)
-}
-
-/// The definitions before the step on these predicates, from those after it.
-pub fn back_defs(
-    _alloc: Global,
-    _preds: &List<PredDecl>,
-    _ps: &List<u32>,
-    _d: Defs,
-) -> Result<Defs, NoMemory>
-    requires within { IsTrue (list_all (λ p. nat_lt p (length _d.of)) _ps.now) }
-    ensures value { IfOk result (λ e. e ≡ back (positions _preds.now) (step.Unreached _ps.now) _d) }
-    ensures leads { IfOk result (StepLeadsBack (positions _preds.now) (step.Unreached _ps.now) _d) }
-{
-    Err(NoMemory)
 }
