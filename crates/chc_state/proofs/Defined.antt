@@ -1,6 +1,6 @@
 -- What definitions that define a state's predicates mean: values as their sorts say.
-use Rattle.std.proofs.Common.{◌≡◌, ℕ, zero, suc, ◌+◌, ◌<◌, ◌≤◌, Bool, true, false, List, [], ◌∷◌, length, map, take, Option, Some, None, inl, inr, refl, sym, ap, ◌∙◌, subst, arith, ◌⊎◌}
-use Rattle.std.specs.Prelude.{slice_get, IsTrue}
+use Rattle.std.proofs.Common.{◌≡◌, ℕ, zero, suc, ◌<◌, true, List, [], length, map, take, Option, Some, None, inl, inr, sym, ap, ◌∙◌, subst, arith}
+use Rattle.std.specs.Prelude.{slice_get}
 use Rattle.std.proofs.lemmas.Bool.{false≢true}
 use Rattle.std.proofs.lemmas.Option.{slice_get_within}
 use Rattle.chc_sorts.specs.declared.sort.Sort.{Sort}
@@ -11,7 +11,7 @@ use Rattle.chc_values.specs.declared.world.WorldEntry.{WorldEntry}
 use Rattle.chc_values.specs.Values.{AreOf, IsOf}
 use Rattle.chc_values.specs.Worlds.{IsWorld}
 use Rattle.chc_terms.specs.declared.fun_sort.FunSort.{FunSort}
-use Rattle.chc_terms.specs.Has.{Meaning, Has, silent}
+use Rattle.chc_terms.specs.Has.{Has, silent}
 use Rattle.chc_terms.specs.Sorted.{Context}
 use Rattle.chc_terms.specs.Laws.{IsFunctional, IsTotal, Means, AreTotal, OneValue}
 use Rattle.chc_state.specs.declared.clause.PredDecl.{PredDecl}
@@ -19,7 +19,7 @@ use Rattle.chc_state.specs.declared.defs.Def.{Def}
 use Rattle.chc_state.specs.declared.defs.Defs.{Defs}
 use Rattle.chc_state.specs.States.{StateView}
 use Rattle.chc_state.specs.Sorts.{positions}
-use Rattle.chc_state.specs.Definitions.{CallMeans, DefMeans, PredMeans, Decided, Defines, IsDefinition, IsPredicateOf, DefinedAs, fun_sort, context_before}
+use Rattle.chc_state.specs.Definitions.{CallMeans, DefMeans, PredMeans, Decided, Defines, IsDefinition, IsPredicateOf, fun_sort, context_before}
 use Rattle.chc_state.proofs.Places.{same_element, one_element, mapped-at, taken-at, beside-at}
 
 -- what terms are over that use the state's predicates and the definitions
@@ -104,7 +104,8 @@ module _ (s : StateView) (d : Defs) (defines : Defines d s) where
       some None f = absurd (false≢true (sym (defines.each p decl None e f) ∙ live))
       some (Some k) f = (k, f)
 
--- definitions mean what their sorts say, and so do the predicates that they define
+-- definitions mean what their sorts say, and so do the predicates that they define, by the law that a term
+-- has at most one value
 pub defined_means : OneValue → (s : StateView) (w : List WorldEntry) (d : Defs) → IsWorld s.sig w → s.sig.datatypes ≡ [] → Defines d s
     → Means (defined_context s d) (PredMeans s.sig w d) (DefMeans s.sig w d)
 defined_means one s w d world none defines = record { preds_fit = λ p params e. of_pred p params e; defs_fit = λ k f e. of_call k f e }

@@ -1,6 +1,12 @@
+pub mod Added
+pub mod Appended
 pub mod Charges
+pub mod Constants
 pub mod Defined
 pub mod Limiting
 pub mod Members
+pub mod Modelled
 pub mod Places
+pub mod Retired
 pub mod Transfers
+pub mod Valued

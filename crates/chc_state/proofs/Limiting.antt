@@ -1,13 +1,12 @@
 -- Within the limits: each test apart, and what fewer clauses keep.
-use Rattle.std.proofs.Common.{◌≡◌, ℕ, ◌+◌, ◌*◌, ◌≤◌, ◌<◌, Bool, true, false, not, cond, ltb, List, [], ◌∷◌, Option, Some, None, length, count_by, sum_by, sym, ap, ◌∙◌, refl, arith, inl, inr}
+use Rattle.std.proofs.Common.{◌≡◌, ℕ, ◌+◌, ◌*◌, ◌≤◌, ◌<◌, Bool, true, false, not, cond, List, [], ◌∷◌, Some, None, length, count_by, sum_by, sym, ap, ◌∙◌, refl, arith, inl, inr}
 use Rattle.std.specs.Prelude.{nat_lt, nat_eq}
 use Rattle.std.specs.List.{filter, list_any}
-use Rattle.std.proofs.lemmas.Bool.{ltb-false, le-ltb, not_from_true, not_from_false, cases_Bool, false≢true}
+use Rattle.std.proofs.lemmas.Bool.{ltb-false, le-ltb, not_from_true, not_from_false, cases_Bool}
 use Rattle.std.proofs.lemmas.Bool.Decides.{nat_tests}
 use Rattle.std.proofs.lemmas.List.Sums.{sum_by-cons}
 use Rattle.chc_sorts.specs.declared.limit.Limit.{Limit}
 use Rattle.chc_sorts.specs.declared.limit.Limit.TheVariants as limit
-use Rattle.chc_state.specs.declared.clause.Atom.{Atom}
 use Rattle.chc_state.specs.declared.clause.Clause.{Clause}
 use Rattle.chc_state.specs.declared.clause.PredDecl.{PredDecl}
 use Rattle.chc_state.specs.Limits.{charge, width, is_too_deep, is_query, reserve, state_charge, live_count, first_true, first_passed}

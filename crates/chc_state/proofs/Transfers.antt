@@ -1,6 +1,6 @@
 -- From one list of clauses to another: where interpretations closed under the one give interpretations
 -- closed under the other, false is derived from the other wherever it is from the one.
-use Rattle.std.proofs.Common.{◌≡◌, ℕ, zero, suc, ◌≤◌, max, List, [], ◌∷◌, None, Some, ◌⊎◌, inl, inr, refl, sym, subst, arith}
+use Rattle.std.proofs.Common.{◌≡◌, ℕ, zero, suc, ◌≤◌, max, List, [], ◌∷◌, inl, inr, refl, sym, subst, arith}
 use Rattle.std.proofs.lemmas.Bool.{cases_lt}
 use Rattle.chc_sorts.specs.Signature.{Signature}
 use Rattle.chc_values.specs.declared.value.Value.{Value}

@@ -1,5 +1,5 @@
 -- The way back of definitions over the steps.
-use Rattle.std.specs.Prelude.{◌≡◌, ℕ, zero, suc, Bool, true, false, IsTrue, List, [], ◌∷◌, ◌++◌, length, Option, Some, None, slice_get, set}
+use Rattle.std.specs.Prelude.{◌≡◌, ℕ, Bool, true, false, IsTrue, List, [], ◌∷◌, ◌++◌, length, Option, Some, None, slice_get, set}
 use Rattle.chc_sorts.specs.declared.sort.Sort.{Sort}
 use Rattle.chc_sorts.specs.declared.sort.Sort.TheVariants as sort
 use Rattle.chc_values.specs.declared.world.WorldEntry.{WorldEntry}
@@ -10,7 +10,7 @@ use Rattle.chc_state.specs.declared.defs.Defs.{Defs}
 use Rattle.chc_state.specs.declared.step.Step.{Step}
 use Rattle.chc_state.specs.declared.step.Step.TheVariants as step
 use Rattle.chc_state.specs.States.{StateView}
-use Rattle.chc_state.specs.Steps.{IsLegal, Goes, after}
+use Rattle.chc_state.specs.Steps.{IsLegal, after}
 use Rattle.chc_state.specs.Sorts.{positions, are_sorted}
 use Rattle.chc_state.specs.Definitions.{Defines, Holds}
 

@@ -1,7 +1,6 @@
 -- What definitions mean, which lists define the live predicates of a state, and what is true under them.
-use Rattle.std.specs.Prelude.{◌≡◌, ◌⊎◌, ◌≤◌, ℕ, zero, suc, Bool, true, false, not, ◌&&◌, cond, is_none, is_some, nat_lt, nat_eq, IsTrue, List, [], ◌∷◌, ◌++◌, length, map, filter, Option, Some, None, slice_get, take}
-use Rattle.std.specs.List.{list_all, list_any}
-use Rattle.std.specs.Option.{option_and_then}
+use Rattle.std.specs.Prelude.{◌≡◌, ◌⊎◌, ℕ, zero, suc, true, false, IsTrue, List, [], length, map, Option, Some, None, slice_get, take}
+use Rattle.std.specs.List.{list_all}
 use Rattle.chc_sorts.specs.declared.sort.Sort.{Sort}
 use Rattle.chc_sorts.specs.declared.sort.Sort.TheVariants as sort
 use Rattle.chc_sorts.specs.Signature.{Signature}
@@ -12,7 +11,7 @@ use Rattle.chc_values.specs.Values.{AreOf}
 use Rattle.chc_terms.specs.declared.fun_sort.FunSort.{FunSort}
 use Rattle.chc_terms.specs.declared.term.Term.{Term}
 use Rattle.chc_terms.specs.Has.{Meaning, Has, silent}
-use Rattle.chc_terms.specs.Sorted.{Context, sort_of, same_sort, same_sorts, sort_fits, sorts_fit}
+use Rattle.chc_terms.specs.Sorted.{Context, sort_of, sort_fits, sorts_fit}
 use Rattle.chc_state.specs.declared.clause.Atom.{Atom}
 use Rattle.chc_state.specs.declared.clause.Clause.{Clause}
 use Rattle.chc_state.specs.declared.clause.PredDecl.{PredDecl}

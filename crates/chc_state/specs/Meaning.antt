@@ -1,6 +1,6 @@
 -- What clauses derive. An interpretation says of a predicate and values whether they hold; derivations,
 -- truth under definitions and the premises of a refutation are all interpretations.
-use Rattle.std.specs.Prelude.{◌≡◌, ◌⊎◌, ◌↔◌, true, ℕ, zero, suc, List, [], ◌∷◌, Option, Some, None}
+use Rattle.std.specs.Prelude.{◌≡◌, ◌⊎◌, ◌↔◌, true, ℕ, zero, suc, List, [], ◌∷◌, Some, None}
 use Rattle.chc_sorts.specs.Signature.{Signature}
 use Rattle.chc_values.specs.declared.value.Value.{Value}
 use Rattle.chc_values.specs.declared.value.Value.TheVariants as value

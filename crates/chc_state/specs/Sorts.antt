@@ -1,5 +1,5 @@
 -- Well-sorted clauses, over predicates whose sorts fit.
-use Rattle.std.specs.Prelude.{ℕ, Bool, true, false, ◌&&◌, List, [], map, Option, Some, None, slice_get}
+use Rattle.std.specs.Prelude.{Bool, false, ◌&&◌, List, [], map, Option, Some, None, slice_get}
 use Rattle.std.specs.List.{list_all}
 use Rattle.chc_sorts.specs.declared.sort.Sort.{Sort}
 use Rattle.chc_sorts.specs.declared.sort.Sort.TheVariants as sort

@@ -1,5 +1,5 @@
 -- States as contracts see them.
-use Rattle.std.specs.Prelude.{ℕ, Bool, true, false, ◌&&◌, List, [], ◌∷◌, Option, Some, None, slice_get}
+use Rattle.std.specs.Prelude.{ℕ, Bool, true, false, ◌&&◌, List, Option, Some, None, slice_get}
 use Rattle.std.specs.List.{list_all}
 use Rattle.chc_sorts.specs.Signature.{Signature}
 use Rattle.chc_state.specs.declared.clause.Atom.{Atom}

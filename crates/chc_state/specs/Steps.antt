@@ -1,5 +1,5 @@
 -- The steps: where each is legal, and the state after it.
-use Rattle.std.specs.Prelude.{◌≡◌, ◌≢◌, ◌+◌, ◌<◌, ℕ, Bool, true, false, not, ◌&&◌, ◌||◌, IsTrue, nat_eq, nat_lt, List, [], ◌∷◌, filter, Option, Some, None}
+use Rattle.std.specs.Prelude.{◌≡◌, ◌≢◌, ◌+◌, ◌<◌, ℕ, Bool, true, not, ◌&&◌, ◌||◌, IsTrue, nat_eq, nat_lt, List, [], ◌∷◌, filter, Option, Some, None}
 use Rattle.std.specs.List.{list_any, list_all}
 use Rattle.chc_state.specs.declared.clause.Atom.{Atom}
 use Rattle.chc_state.specs.declared.clause.Clause.{Clause}

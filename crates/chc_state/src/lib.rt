@@ -10,8 +10,8 @@ mod tally;
 #[cfg(test)]
 mod tests;
 
-pub use defs::{Def, Defs};
 pub use clause::{Atom, Clause, PredDecl};
+pub use defs::{Def, Defs};
 pub use state::State;
 pub use step::Step;
 pub use tally::over;

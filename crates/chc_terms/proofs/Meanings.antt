@@ -1,5 +1,5 @@
 -- The value of a plain term doesn't depend on what predicates and definitions mean.
-use Rattle.std.proofs.Common.{◌≡◌, List, [], ◌∷◌, map, Bool, true, false, ◌&&◌, sym, inl, inr, ◌∙◌, refl}
+use Rattle.std.proofs.Common.{◌≡◌, List, [], ◌∷◌, map, true, false, sym, inl, inr, ◌∙◌}
 use Rattle.std.proofs.lemmas.Bool.{false≢true}
 use Rattle.std.specs.List.{AllByRecursion, list_all}
 use Rattle.chc_sorts.specs.declared.op.Op.{Op}
@@ -15,12 +15,8 @@ use Rattle.chc_terms.specs.Sorted.{is_plain}
 use Rattle.chc_terms.specs.Laws.{SameMeaning}
 use Rattle.chc_terms.proofs.Induction.{TermCases, term_ind}
 use Rattle.chc_terms.proofs.HasLaws.{Has-Var, Has-Num, Has-Lit, Has-App}
+use Rattle.chc_terms.proofs.SameSort.{both_true}
 use Rattle.chc_terms.proofs.SortLaws.{is_plain-App, is_plain-Pred, is_plain-Quant, is_plain-Call}
-
--- both parts of a conjunction
-pub both_true : (a b : Bool) → (a && b) ≡ true → (a ≡ true) × (b ≡ true)
-both_true true b h = (refl, h)
-both_true false b h = absurd (false≢true h)
 
 -- what has a value by `has` has it by `holds` too
 abbrev pub Follows : {X : Type 0} → (X → List Value → Value → Type 0) → (X → List Value → Value → Type 0) → X → Type 0
@@ -72,7 +68,7 @@ module _ (sig : Signature) (w : List WorldEntry) (preds defs others more : Meani
   kept_app o ts k h env v p =
       rw (Has-App sig w others more o ts env v)
       (AppHas-follows (Has sig w preds defs) (Has sig w others more) sig w o ts (all_kept ts k (sym (is_plain-App o ts) ∙ h)) env v
-        (rw (Has-App sig w preds defs o ts env v) at p))
+      (rw (Has-App sig w preds defs o ts env v) at p))
 
   kept : TermCases Kept
   kept = record {

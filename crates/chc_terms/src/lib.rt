@@ -7,6 +7,6 @@ mod term;
 #[cfg(test)]
 mod tests;
 
-pub use fun_sort::FunSort;
 pub use counts::{depth, depth_all, size, size_all};
+pub use fun_sort::FunSort;
 pub use term::{Kind, Term, Terms, copy_terms};

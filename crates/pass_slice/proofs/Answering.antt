@@ -39,7 +39,7 @@ module _ (sig : Signature) (w : List WorldEntry) (cs : List Clause) where
 
   module _ (set : PredSet) where
     -- nothing of the set holds
-    avoiding : Interp → Interp
+    unfoldable pub avoiding : Interp → Interp
     avoiding J = λ p us. J p us × (set p ≡ false)
 
     outside : (J : Interp) (c : Clause) (env : List Value) → Fires sig w (avoiding J) c env → body_meets set c ≡ false
@@ -51,7 +51,7 @@ module _ (sig : Signature) (w : List WorldEntry) (cs : List Clause) where
     fires_avoiding J c env f =
         record { sorted = f.sorted; truths = f.truths; atoms = λ a i. let h = f.atoms a i in (h.0, h.1, h.2.0) }
 
-    unreached : is_unreached cs set ≡ true → Transfer sig w cs (filter (λ c. not (body_meets set c)) cs) avoiding
+    pub unreached : is_unreached cs set ≡ true → Transfer sig w cs (filter (λ c. not (body_meets set c)) cs) avoiding
     unfolding avoiding
     unreached meets J closed = (
       λ p us n.
@@ -86,7 +86,7 @@ module _ (sig : Signature) (w : List WorldEntry) (cs : List Clause) where
         ]
 
     -- anything of the set holds
-    granting : Interp → Interp
+    unfoldable pub granting : Interp → Interp
     granting J = λ p us. set p ≡ false → J p us
 
     fires_granting : (J : Interp) (c : Clause) (env : List Value) → body_meets set c ≡ false → Fires sig w (granting J) c env → Fires sig w J c env
@@ -94,7 +94,7 @@ module _ (sig : Signature) (w : List WorldEntry) (cs : List Clause) where
     fires_granting J c env out f =
         record { sorted = f.sorted; truths = f.truths; atoms = λ a i. let h = f.atoms a i in (h.0, h.1, h.2 (none-at (λ (a : Atom). set a.pred) a c.body out i)) }
 
-    unneeded : is_unneeded cs set ≡ true → Transfer sig w cs (filter (λ c. not (head_meets set c)) cs) granting
+    pub unneeded : is_unneeded cs set ≡ true → Transfer sig w cs (filter (λ c. not (head_meets set c)) cs) granting
     unfolding granting
     unneeded meets J closed = (
       λ p us n out_p.

@@ -1,5 +1,9 @@
 pub mod Answering
+pub mod Ascending
+pub mod Bare
 pub mod Bounding
+pub mod Choosing
+pub mod Leading
 pub mod Removing
 pub mod Retiring
 pub mod Taking

@@ -21,10 +21,6 @@ use Rattle.chc_state.proofs.Limiting.{WithinLimits-from_none, none_from-WithinLi
 use Rattle.pass_slice.proofs.Answering.{head_meets-none, unreached_same, unneeded_same}
 
 module _ (set : PredSet) where
-  pub length-retired : (n : ℕ) (ds : List PredDecl) → length (retired set n ds) ≡ length ds
-  length-retired n [] = refl
-  length-retired n (d ∷ ds) = ap suc (length-retired (n + 1) ds)
-
   -- live is what was live and isn't in the set
   pub is_live-retired : (n : ℕ) (ds : List PredDecl) (p : ℕ) → is_live (retired set n ds) p ≡ (is_live ds p && not (set (n + p)))
   is_live-retired n [] p = refl

@@ -10,7 +10,7 @@ use Rattle.chc_state.specs.declared.step.Step.TheVariants as step
 use Rattle.chc_state.specs.States.{StateView}
 use Rattle.chc_state.specs.Steps.{PredSet, set_of, retired, without, after}
 use Rattle.pass_slice.specs.Tables.{marked}
-use Rattle.pass_slice.proofs.Removing.{length-retired}
+use Rattle.chc_state.proofs.Retired.{length-retired}
 
 same_set : (ps : List ℕ) (table other : List Bool) → ((p : ℕ) → marked table p ≡ set_of ps p) → other ≡ table → marked other ≡ set_of ps
 same_set ps table other same e = ap marked e ∙ fun_ext same

@@ -3,6 +3,8 @@
 //! the queries). The answer stays the same.
 #![tactic(auto)]
 
+mod back;
+mod choice;
 mod sets;
 #[cfg(test)]
 mod tests;

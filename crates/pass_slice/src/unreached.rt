@@ -1,13 +1,17 @@
 //! Predicates that no derivation reaches.
 
-ghost use Rattle.std.specs.Prelude.{◌≡◌, not, ◌||◌, IsTrue, IfOk, IfErr, MatchOption, filter};
+ghost use Rattle.std.specs.Prelude.{◌≡◌, ◌↔◌, None, not, ◌||◌, IsTrue, IfOk, IfErr, MatchOption, filter, nat_lt, length};
+ghost use Rattle.std.specs.List.{list_all};
+ghost use Rattle.chc_state.specs.Sorts.{positions};
+ghost use Rattle.chc_state.specs.Limits.{first_passed};
+ghost use Rattle.chc_state.specs.Back.{back, StepLeadsBack};
 ghost use Rattle.chc_state.specs.Steps.{IsLegal, Applies, Finds, is_unreached, body_meets, head_meets};
 ghost use Rattle.chc_state.specs.declared.step.Step.TheVariants as step;
 ghost use Rattle.pass_slice.specs.Tables.{marked, Bounds, Reaches, Strikes, AtPlace};
 
-use crate::sets;
+use crate::{back, choice, sets};
 use chc_sorts::{List, NoMemory};
-use chc_state::{Clause, State};
+use chc_state::{Clause, Defs, PredDecl, State};
 use std::alloc::Global;
 
 /// The greatest set of live predicates of which each clause that concludes one has another in its
@@ -191,4 +195,44 @@ fn without_users(table: &[bool], clauses: List<Clause>) -> List<Clause>
     let mut kept = clauses.into_vec();
     kept.retain(|c| !sets::body_is_marked(table, c));
     List::from_vec(kept)
+}
+
+/// Whether the step on these numbers may be taken: there are some, each above the one before it, all of live
+/// predicates, and each clause that concludes one of them has one of them in its body. Any numbers may be
+/// asked of, in time linear in the state and the numbers. Refuses only for want of memory.
+pub fn legal(alloc: Global, s: &State, ps: &List<u32>) -> Result<bool, NoMemory>
+    ensures { IfOk result (λ b. IsTrue b ↔ IsLegal s.now (step.Unreached ps.now)) }
+{
+    if !choice::can_go(s, ps) {
+        return Ok(false);
+    }
+    let table = sets::table_for(alloc, s, ps)?;
+    Ok(is_met(&table, s))
+}
+
+/// Whether every clause meets the condition on the marked predicates.
+fn is_met(table: &[bool], s: &State) -> bool
+    ensures meets { result ≡ is_unreached s.now.clauses (marked table.now) }
+    ensures within { first_passed s.now.preds s.now.clauses ≡ None }
+{
+    s.clauses().as_slice().iter().all(|c| !sets::head_is_marked(table, c)
+        || sets::body_is_marked(table, c))
+}
+
+/// The definitions before a step that removed these predicates, from definitions after it: each of them is
+/// false on all arguments. `preds` are the predicates that were declared before the step. Where the step was legal,
+/// the clauses before it are true in every world in which those after it were. Refuses only for want of
+/// memory.
+pub fn back_defs(
+    alloc: Global,
+    preds: &List<PredDecl>,
+    ps: &List<u32>,
+    d: Defs,
+) -> Result<Defs, NoMemory>
+    requires within { IsTrue (list_all (λ p. nat_lt p (length d.of)) ps.now) }
+    ensures value { IfOk result (λ e. e ≡ back (positions preds.now) (step.Unreached ps.now) d) }
+    ensures leads { IfOk result (StepLeadsBack (positions preds.now) (step.Unreached ps.now) d) }
+{
+    let defs = back::with_constants(alloc, false, preds, ps.as_slice(), d)?;
+    Ok(defs)
 }
