@@ -1,4 +1,10 @@
 pub mod Ints
-pub mod Live
+pub mod IntSorts
+pub mod Kept
+pub mod Made
+pub mod MadeLaws
+pub mod NameLaws
+pub mod Numbers
+pub mod Readings
 pub mod Tables
 pub mod TermLaws

@@ -1,5 +1,5 @@
--- The clauses that assertions stand for.
-use Rattle.std.specs.Prelude.{ℕ, zero, suc, Bool, true, false, not, ◌&&◌, cond, nat_eq, nat_lt, List, [], ◌∷◌, ◌++◌, length, Option, Some, None, slice_get, codes}
+-- The assertions that trees stand for, with their clauses.
+use Rattle.std.specs.Prelude.{ℕ, zero, suc, Bool, true, false, not, ◌&&◌, cond, nat_eq, nat_lt, List, [], ◌∷◌, ◌++◌, length, map, Option, Some, None, slice_get, codes}
 use Rattle.std.specs.Option.{option_map}
 use Rattle.std.specs.Str.{bytes_eq}
 use Rattle.chc_sorts.specs.declared.op.Op.{Op}
@@ -7,6 +7,7 @@ use Rattle.chc_sorts.specs.declared.op.Op.TheVariants as op
 use Rattle.chc_sorts.specs.declared.sort.Sort.{Sort}
 use Rattle.chc_sorts.specs.declared.sort.Sort.TheVariants as sort
 use Rattle.chc_sexpr.specs.declared.tree.Tree.{Tree}
+use Rattle.chc_terms.specs.declared.term.Kind.TheVariants as kind
 use Rattle.chc_terms.specs.declared.term.Term.{Term}
 use Rattle.chc_terms.specs.declared.term.Term.TheVariants as term
 use Rattle.chc_state.specs.declared.clause.Atom.{Atom}
@@ -18,7 +19,7 @@ use Rattle.chc_script.specs.Shapes.{symbol_of, group_of, is_symbol, is_word, for
 use Rattle.chc_script.specs.Terms.{most_variables, number_of, term_of, terms_of}
 use Rattle.chc_script.specs.declared.first.premise.Part.{Part}
 use Rattle.chc_script.specs.declared.first.premise.Part.TheVariants as part
-use Rattle.chc_script.specs.declared.first.premise.Premise.{Premise}
+use Rattle.chc_script.specs.declared.first.build.Assertion.{Assertion}
 
 -- how many predicates a script may declare at most
 abbrev pub most_predicates : ℕ
@@ -70,15 +71,6 @@ operands_at o (Some s) (Some t) = Some (part.Constraint (term.App o (s ∷ t ∷
 abbrev pub constraint_on : List (List ℕ) → Op → Tree × Tree → Option Part
 constraint_on vars o (s, t) = operands_at o (term_of vars s) (term_of vars t)
 
--- no parts
-abbrev pub no_premise : Premise
-no_premise = record { conj = []; body = [] }
-
--- the parts with one more behind them
-abbrev pub with_part : Premise → Part → Premise
-with_part premise (part.Constraint term) = record { conj = premise.conj ++ term ∷ []; body = premise.body }
-with_part premise (part.Atom atom) = record { conj = premise.conj; body = premise.body ++ atom ∷ [] }
-
 -- the arguments of a form `and` of at least two, and otherwise the tree alone
 abbrev pub conjuncts_at : Tree → Option (List ℕ × List Tree) → List Tree
 conjuncts_at tree None = tree ∷ []
@@ -90,15 +82,64 @@ conjuncts_at tree (Some (name, a ∷ b ∷ more)) = cond (bytes_eq name (codes "
 abbrev pub conjuncts_of : Tree → List Tree
 conjuncts_of tree = conjuncts_at tree (form_of tree)
 
--- the clause over so many variables of these parts and this head, of weight 1
-abbrev pub clause_of : ℕ → Premise → Option Atom → Clause
-clause_of n premise head = record { vars = ints n; conj = premise.conj; body = premise.body; head = head; weight = 1 }
+-- the constraints among parts, in order
+abbrev pub constraints_of : List Part → List Term
+constraints_of [] = []
+constraints_of (part.Constraint t ∷ ps) = t ∷ constraints_of ps
+constraints_of (part.Atom a ∷ ps) = constraints_of ps
 
--- the clause of a premise and a head that have both been read
-abbrev pub implication_at : ℕ → Option Premise → Option (Option Atom) → Option Clause
+-- the atoms among parts, in order
+abbrev pub atoms_of : List Part → List Atom
+atoms_of [] = []
+atoms_of (part.Constraint t ∷ ps) = atoms_of ps
+atoms_of (part.Atom a ∷ ps) = a ∷ atoms_of ps
+
+-- the clause over so many variables of these parts and this head, of weight 1
+abbrev pub clause_of : ℕ → List Part → Option Atom → Clause
+clause_of n parts head = record { vars = ints n; conj = constraints_of parts; body = atoms_of parts; head = head; weight = 1 }
+
+-- an atom as a term
+abbrev pub atom_term : Atom → Term
+atom_term a = term.Pred a.pred a.args
+
+-- a part as a term
+abbrev pub part_term : Part → Term
+part_term (part.Constraint t) = t
+part_term (part.Atom a) = atom_term a
+
+-- a head as a term: an atom, or `false` where there is none
+abbrev pub head_term : Option Atom → Term
+head_term None = term.Lit false
+head_term (Some a) = atom_term a
+
+-- one term alone, and of several the conjunction
+abbrev pub conjunction : List Term → Term
+conjunction [] = term.App op.And []
+conjunction (t ∷ []) = t
+conjunction (t ∷ u ∷ more) = term.App op.And (t ∷ u ∷ more)
+
+-- the implication of one term by another: not the premise, or the head
+abbrev pub implication : Term → Term → Term
+implication premise head = term.App op.Or (term.App op.Not (premise ∷ []) ∷ head ∷ [])
+
+-- the head alone where there are no parts, and otherwise the implication of it by all of them
+abbrev pub matrix_term : List Part → Option Atom → Term
+matrix_term [] head = head_term head
+matrix_term (p ∷ ps) head = implication (conjunction (map part_term (p ∷ ps))) (head_term head)
+
+-- the term for all values of so many variables
+abbrev pub for_all : ℕ → Term → Term
+for_all n body = cond (nat_eq n 0) body (term.Quant kind.Forall (ints n) body)
+
+-- the assertion over so many variables of these parts and this head
+abbrev pub assertion_of : ℕ → List Part → Option Atom → Assertion
+assertion_of n parts head = record { term = for_all n (matrix_term parts head); clause = clause_of n parts head }
+
+-- the assertion of parts and a head that have both been read
+abbrev pub implication_at : ℕ → Option (List Part) → Option (Option Atom) → Option Assertion
 implication_at n None head = None
-implication_at n (Some premise) None = None
-implication_at n (Some premise) (Some head) = Some (clause_of n premise head)
+implication_at n (Some parts) None = None
+implication_at n (Some parts) (Some head) = Some (assertion_of n parts head)
 
 -- under declared predicates and variables of these names
 module _ (declared : DeclaredView) (vars : List (List ℕ)) where
@@ -123,25 +164,25 @@ module _ (declared : DeclaredView) (vars : List (List ℕ)) where
       (option_map part.Atom (atom_of tree)))
 
   -- these parts, and after them those that the trees stand for
-  abbrev pub parts_after : Premise → List Tree → Option Premise
-  parts_after premise [] = Some premise
-  parts_after premise (t ∷ ts) = part_of t >>= (λ read. parts_after (with_part premise read) ts)
+  abbrev pub parts_after : List Part → List Tree → Option (List Part)
+  parts_after made [] = Some made
+  parts_after made (t ∷ ts) = part_of t >>= (λ read. parts_after (made ++ read ∷ []) ts)
 
-  -- the parts that the tree before an implication's head stands for
-  abbrev pub premise_of : Tree → Option Premise
-  premise_of tree = parts_after no_premise (conjuncts_of tree)
+  -- the parts that trees stand for, in their order
+  abbrev pub parts_of : List Tree → Option (List Part)
+  parts_of trees = parts_after [] trees
 
   -- the head that the tree behind an implication's premise stands for: none for `false`, and otherwise an atom
   abbrev pub head_of : Tree → Option (Option Atom)
   head_of tree = cond (is_symbol (codes "false") tree) (Some None) (option_map Some (atom_of tree))
 
-  -- the clause of an implication of these two trees, and otherwise of the atom
-  abbrev pub matrix_at : Tree → Option (Tree × Tree) → Option Clause
-  matrix_at tree None = option_map (λ atom. clause_of (length vars) no_premise (Some atom)) (atom_of tree)
-  matrix_at tree (Some (premise, head)) = implication_at (length vars) (premise_of premise) (head_of head)
+  -- the assertion of an implication of these two trees, and otherwise of the atom
+  abbrev pub matrix_at : Tree → Option (Tree × Tree) → Option Assertion
+  matrix_at tree None = option_map (λ atom. assertion_of (length vars) [] (Some atom)) (atom_of tree)
+  matrix_at tree (Some (premise, head)) = implication_at (length vars) (parts_of (conjuncts_of premise)) (head_of head)
 
-  -- the clause that a matrix stands for: an atom or `(=> premise head)`
-  abbrev pub matrix_of : Tree → Option Clause
+  -- the assertion of a matrix under these variables: an atom or `(=> premise head)`
+  abbrev pub matrix_of : Tree → Option Assertion
   matrix_of tree = matrix_at tree (pair_of (codes "=>") tree)
 
 -- the name in a group of a name and the sort Int
@@ -192,11 +233,11 @@ forall_at (Some (a ∷ b ∷ c ∷ d ∷ more)) = None
 abbrev pub forall_of : Tree → Option (Tree × Tree)
 forall_of tree = forall_at (group_of tree)
 
--- the clause of a matrix under these binders, and otherwise of the tree as a matrix
-abbrev pub assertion_at : DeclaredView → Tree → Option (Tree × Tree) → Option Clause
+-- the assertion of a matrix under these binders, and otherwise of the tree as a matrix
+abbrev pub assertion_at : DeclaredView → Tree → Option (Tree × Tree) → Option Assertion
 assertion_at declared tree None = matrix_of declared [] tree
 assertion_at declared tree (Some (binders, matrix)) = variables_of declared.names binders >>= (λ vars. matrix_of declared vars matrix)
 
--- the clause that an assertion stands for: a matrix, or one under `forall`
-abbrev pub assertion : DeclaredView → Tree → Option Clause
+-- the assertion that a tree stands for: a matrix, or one under `forall`
+abbrev pub assertion : DeclaredView → Tree → Option Assertion
 assertion declared tree = assertion_at declared tree (forall_of tree)

@@ -5,3 +5,4 @@ pub mod Scripts
 pub mod Shapes
 pub mod Terms
 pub mod Assertions
+pub mod Made

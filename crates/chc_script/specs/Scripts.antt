@@ -1,4 +1,4 @@
--- The state that a first script stands for.
+-- The script that the trees of a text stand for.
 use Rattle.std.specs.Prelude.{ℕ, ◌≡◌, Bool, true, false, not, ◌&&◌, cond, nat_eq, nat_lt, is_none, List, [], ◌∷◌, ◌++◌, length, Option, Some, None, Result, Ok, Err, ⊤, codes}
 use Rattle.std.specs.List.{list_all}
 use Rattle.std.specs.Option.{option_map}
@@ -6,18 +6,20 @@ use Rattle.std.specs.Str.{bytes_eq}
 use Rattle.chc_sorts.specs.Signature.{no_datatypes}
 use Rattle.chc_sorts.specs.declared.memory.NoMemory.{NoMemory}
 use Rattle.chc_sexpr.specs.declared.tree.Tree.{Tree}
-use Rattle.chc_sexpr.specs.Spelling.{Spells}
+use Rattle.chc_sexpr.specs.Spelling.{Spells, is_quotable}
+use Rattle.chc_terms.specs.declared.term.Term.{Term}
 use Rattle.chc_state.specs.declared.clause.Clause.{Clause}
 use Rattle.chc_state.specs.Limits.{first_passed}
 use Rattle.chc_script.specs.Clauses.{DeclaredView, most_predicates, no_predicates, with_predicate, assertion}
 use Rattle.chc_script.specs.Names.{has_name, is_fixed}
 use Rattle.chc_script.specs.Readings.{◌>>=◌}
 use Rattle.chc_script.specs.Shapes.{symbol_of, group_of, is_symbol, form_of}
+use Rattle.chc_script.specs.declared.first.build.Assertion.{Assertion}
 use Rattle.chc_script.specs.declared.first.script.Script.{Script}
 use Rattle.chc_script.specs.declared.first.draft.Stage.{Stage}
 use Rattle.chc_script.specs.declared.first.draft.Stage.TheVariants as stage
 
--- the names of the predicates by number, and the state
+-- the state, the names of its predicates by number, and its assertions
 abbrev pub ScriptView : Type 0
 ScriptView = Script
 
@@ -25,11 +27,12 @@ ScriptView = Script
 pub record DraftView : Type 0 where
   pub stage : Stage
   pub declared : DeclaredView
+  pub assertions : List Term
   pub clauses : List Clause
 
 -- before the first command
 abbrev pub fresh : DraftView
-fresh = record { stage = stage.Fresh; declared = no_predicates; clauses = [] }
+fresh = record { stage = stage.Fresh; declared = no_predicates; assertions = []; clauses = [] }
 
 -- whether no command has been read
 abbrev pub is_fresh : Stage → Bool
@@ -51,7 +54,7 @@ is_checked stage.Checked = true
 
 -- the draft at another stage
 abbrev pub at_stage : Stage → DraftView → DraftView
-at_stage s d = record { stage = s; declared = d.declared; clauses = d.clauses }
+at_stage s d = record { stage = s; declared = d.declared; assertions = d.assertions; clauses = d.clauses }
 
 -- `(set-logic HORN)`, which stands first
 abbrev pub set_logic : DraftView → List Tree → Option DraftView
@@ -68,17 +71,19 @@ positions_at (Some trees) = cond (list_all (is_symbol (codes "Int")) trees) (Som
 abbrev pub positions_of : Tree → Option ℕ
 positions_of tree = positions_at (group_of tree)
 
--- whether a predicate of that name may be declared: the draft has no clause yet, and the name is new and no fixed one
+-- whether a predicate of that name may be declared: the draft has no clause yet, and the name is new, no fixed one, and
+-- can be quoted
 abbrev pub may_declare : DraftView → List ℕ → Bool
 may_declare d name =
-    is_open d.stage && nat_eq (length d.clauses) 0 && not (is_fixed name) && not (has_name d.declared.names name) && nat_lt (length d.declared.names) most_predicates
+    is_open d.stage && nat_eq (length d.clauses) 0 && not (is_fixed name) && not (has_name d.declared.names name)
+    && list_all is_quotable name && nat_lt (length d.declared.names) most_predicates
 
 -- the draft with a predicate of a name and a number of positions that have both been read
 abbrev pub declare_at : DraftView → Option (List ℕ) → Option ℕ → Option DraftView
 declare_at d None n = None
 declare_at d (Some name) None = None
 declare_at d (Some name) (Some n) =
-    cond (may_declare d name) (Some (record { stage = d.stage; declared = with_predicate d.declared name n; clauses = d.clauses })) None
+    cond (may_declare d name) (Some (record { stage = d.stage; declared = with_predicate d.declared name n; assertions = d.assertions; clauses = d.clauses })) None
 
 -- a declaration by the trees of its name, its positions and the sort of its values
 abbrev pub declare_parts : DraftView → Tree → Tree → Tree → Option DraftView
@@ -92,14 +97,14 @@ declare d (a ∷ b ∷ []) = None
 declare d (name ∷ positions ∷ values ∷ []) = declare_parts d name positions values
 declare d (a ∷ b ∷ c ∷ e ∷ more) = None
 
--- the draft with one more clause behind the others
-abbrev pub with_clause : DraftView → Clause → DraftView
-with_clause d c = record { stage = d.stage; declared = d.declared; clauses = d.clauses ++ c ∷ [] }
+-- the draft with one more assertion behind the others
+abbrev pub with_assertion : DraftView → Assertion → DraftView
+with_assertion d a = record { stage = d.stage; declared = d.declared; assertions = d.assertions ++ a.term ∷ []; clauses = d.clauses ++ a.clause ∷ [] }
 
 -- `(assert A)`
 abbrev pub assert : DraftView → List Tree → Option DraftView
 assert d [] = None
-assert d (a ∷ []) = cond (is_open d.stage) (option_map (with_clause d) (assertion d.declared a)) None
+assert d (a ∷ []) = cond (is_open d.stage) (option_map (with_assertion d) (assertion d.declared a)) None
 assert d (a ∷ b ∷ more) = None
 
 -- `(check-sat)`, which stands last
@@ -128,7 +133,7 @@ commands d (t ∷ ts) = command d t >>= (λ e. commands e ts)
 abbrev pub closed : DraftView → Option ScriptView
 closed d =
     cond (is_checked d.stage && is_none (first_passed d.declared.preds d.clauses))
-    (Some (record { names = d.declared.names; state = record { sig = no_datatypes; preds = d.declared.preds; clauses = d.clauses }; assertions = [] }))
+    (Some (record { names = d.declared.names; state = record { sig = no_datatypes; preds = d.declared.preds; clauses = d.clauses }; assertions = d.assertions }))
     None
 
 -- the script that trees stand for

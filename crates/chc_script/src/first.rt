@@ -1,6 +1,7 @@
-//! First scripts: a plain form of script, with `Int` as the only sort, read into a state.
+//! First scripts: a small form of script, with `Int` as the only sort, read into a state.
 
 mod assertion;
+mod build;
 mod declared;
 mod draft;
 mod names;

@@ -4,7 +4,7 @@ use crate::{Script, read_first};
 use chc_sorts::{NoMemory, Op};
 use chc_source::ByteText;
 use chc_state::{Atom, Clause, PredDecl};
-use chc_terms::{Term, Terms};
+use chc_terms::{Kind, Term, Terms};
 use std::alloc::Global;
 
 /// The script of the usual commands around these, with two predicates, `p` of no positions and `q` of one.
@@ -37,20 +37,40 @@ fn name_of(op: &Op) -> &'static [u8] {
         Op::Add => b"+",
         Op::Le => b"<=",
         Op::Lt => b"<",
+        Op::Not => b"not",
+        Op::And => b"and",
+        Op::Or => b"or",
         _ => b"?",
     }
+}
+
+fn show_applied(
+    alloc: Global,
+    out: &mut ByteText,
+    head: &[u8],
+    args: &Terms,
+) -> Result<(), NoMemory> {
+    out.extend(b" (")?;
+    out.extend(head)?;
+    for arg in args.as_slice() {
+        show_term(alloc, out, arg)?;
+    }
+    out.push(b')')
 }
 
 fn show_term(alloc: Global, out: &mut ByteText, term: &Term) -> Result<(), NoMemory> {
     match term {
         Term::Var(number) => out.extend(format!(in alloc; " x{number}")?.as_bytes()),
         Term::Num(number) => out.extend(format!(in alloc; " {number}")?.as_bytes()),
-        Term::App(op, args) => {
-            out.extend(b" (")?;
-            out.extend(name_of(op))?;
-            for arg in args.as_slice() {
-                show_term(alloc, out, arg)?;
-            }
+        Term::Lit(truth) => out.extend(format!(in alloc; " {truth}")?.as_bytes()),
+        Term::App(op, args) => show_applied(alloc, out, name_of(op), args),
+        Term::Pred(pred, args) => {
+            show_applied(alloc, out, format!(in alloc; "p{pred}")?.as_bytes(), args)
+        }
+        Term::Quant(Kind::Forall, sorts, body) => {
+            let vars = sorts.len();
+            out.extend(format!(in alloc; " (forall {vars}")?.as_bytes())?;
+            show_term(alloc, out, body.get())?;
             out.push(b')')
         }
         _ => out.push(b'?'),
@@ -98,7 +118,8 @@ fn show_predicate(
     out.extend(format!(in alloc; " {positions}\n")?.as_bytes())
 }
 
-/// The predicates with their numbers of positions, and the clauses: variables, weight, constraints, body atoms, head.
+/// The predicates with their numbers of positions, the clauses (variables, weight, constraints, body atoms, head), and the
+/// assertions.
 fn shown(alloc: Global, script: &Script) -> Result<ByteText, NoMemory> {
     let mut out = ByteText::new(alloc);
     for (name, decl) in script
@@ -111,6 +132,10 @@ fn shown(alloc: Global, script: &Script) -> Result<ByteText, NoMemory> {
     }
     for clause in script.state.clauses().as_slice() {
         show_clause(alloc, &mut out, clause)?;
+    }
+    for assertion in script.assertions.as_slice() {
+        show_term(alloc, &mut out, assertion)?;
+        out.push(b'\n')?;
     }
     Ok(out)
 }
@@ -135,18 +160,52 @@ dead 1
 1 1: | (0 x0) => (1 x0)
 2 1: | (2 x0) (0 x1) => (0 x0)
 1 1: (< 20 x0) | (0 x0) =>
+ (forall 1 (or (not (<= x0 0)) (p0 x0)))
+ (forall 2 (or (not (and (p0 x0) (< x0 10) (<= x0 x1) (<= x1 (+ x0 1)))) (p0 x1)))
+ (forall 1 (or (not (p0 x0)) (p1 x0)))
+ (forall 2 (or (not (and (p2 x0) (p0 x1))) (p0 x0)))
+ (forall 1 (or (not (and (p0 x0) (< 20 x0))) false))
 ";
 
-#[test]
-fn clauses_are_those_that_the_script_says(rt: HostRuntime) {
-    let alloc = rt.alloc();
-    match read_first(alloc, FIRST_RUN) {
+/// Comments, quoted names, and assertions without variables or premises.
+const QUOTED: &[u8] = b"; two predicates
+(set-logic |HORN|)
+(declare-fun |let| () Bool) ; a reserved word
+(declare-fun |a b;c| (Int) Bool)
+(assert |let|)
+(assert (=> (|let|) (|a b;c| 1)))
+(assert (forall ((|x| Int)) (|a b;c| x)))
+(assert (=> |let| false))
+(check-sat) ; the end";
+
+const QUOTED_SHOWN: &[u8] = b"let 0
+a b;c 1
+0 1: | => (0)
+0 1: | (0) => (1 1)
+1 1: | => (1 x0)
+0 1: | (0) =>
+ (p0)
+ (or (not (p0)) (p1 1))
+ (forall 1 (p1 x0))
+ (or (not (p0)) false)
+";
+
+/// Whether the script that the text stands for is shown so, or `None` where memory was refused.
+fn is_shown(alloc: Global, text: &[u8], wanted: &[u8]) -> Option<bool> {
+    match read_first(alloc, text) {
         Ok(Some(script)) => match shown(alloc, &script) {
-            Ok(text) => assert!(rt; text.bytes() == FIRST_RUN_SHOWN),
-            Err(_) => assert!(rt; false),
+            Ok(text) => Some(text.bytes() == wanted),
+            Err(_) => None,
         },
-        _ => assert!(rt; false),
+        Ok(None) => Some(false),
+        Err(_) => None,
     }
+}
+
+#[test]
+fn clauses_and_assertions_are_those_that_the_script_says(rt: HostRuntime) {
+    assert!(rt; is_shown(rt.alloc(), FIRST_RUN, FIRST_RUN_SHOWN) == Some(true));
+    assert!(rt; is_shown(rt.alloc(), QUOTED, QUOTED_SHOWN) == Some(true));
 }
 
 #[test]
@@ -209,7 +268,7 @@ fn declarations_stand_first_and_differ(rt: HostRuntime) {
 #[test]
 fn assertions_are_clauses(rt: HostRuntime) {
     let read = [
-        b"(assert p)(assert (p))".as_slice(),
+        b"(assert p)(assert (p))(assert |p|)".as_slice(),
         b"(assert (q (+ (+ 1 2) (+ 3 4))))",
         b"(assert (=> p (p)))(assert (=> p false))",
         b"(assert (=> (and p (q 1) (<= 1 2)) false))",
@@ -238,7 +297,9 @@ fn assertions_are_clauses(rt: HostRuntime) {
         b"(assert (=> (<= 1 2 3) p))",
         b"(assert (=> (= 1 1) p))",
         b"(assert (<= 1 2))",
-        b"(assert |p|)",
+        b"(assert |p)",
+        b"(assert \"p\")",
+        b"(assert (q #x1))",
     ];
     for commands in refused {
         assert!(rt; is_read_with(rt.alloc(), commands) == Some(false));

@@ -1,18 +1,19 @@
-//! Clauses from assertions.
+//! Assertions from trees.
 
 ghost use Rattle.std.specs.Prelude.{◌≡◌, ◌<◌, ◌≤◌, None, Some, false, [], length, option_copied, MatchOption, IfOk, IfSome};
-ghost use Rattle.chc_script.specs.Clauses.{assertion, binder_of, clause_of, forall_of, head_of, implication_at, matrix_of, may_bind, premise_of, variable_of, variables_after, variables_of};
+ghost use Rattle.chc_script.specs.Clauses.{assertion, binder_of, conjuncts_of, forall_of, head_of, implication_at, matrix_of, may_bind, parts_of, variable_of, variables_after, variables_of};
 ghost use Rattle.chc_script.specs.Names.{has_name};
 ghost use Rattle.chc_script.specs.Readings.{Gives};
 ghost use Rattle.chc_script.specs.Terms.{most_variables};
 
-use crate::first::declared::{Declared, ints};
+use crate::first::build::{Assertion, assertion_of};
+use crate::first::declared::Declared;
 use crate::first::names::{NameTable, is_fixed};
-use crate::first::premise::{Premise, read_atom, read_premise};
+use crate::first::premise::{read_atom, read_premise};
 use crate::first::shape::{group_of, is_symbol, is_word, pair_of, symbol_of};
 use chc_sexpr::Tree;
-use chc_sorts::NoMemory;
-use chc_state::{Atom, Clause};
+use chc_sorts::{List, NoMemory};
+use chc_state::Atom;
 use std::alloc::Global;
 
 /// How many variables a clause may have at most.
@@ -37,54 +38,34 @@ fn read_head(
     }
 }
 
-/// The clause over so many variables of these parts and this head, of weight 1.
-fn clause_of(
-    alloc: Global,
-    vars: usize,
-    premise: Premise,
-    head: Option<Atom>,
-) -> Result<Clause, NoMemory>
-    ensures { IfOk result (λ clause. clause ≡ clause_of vars premise head) }
-{
-    let vars = ints(alloc, vars)?;
-    let Premise { conj, body } = premise;
-    Ok(Clause {
-        vars,
-        conj,
-        body,
-        head,
-        weight: 1,
-    })
-}
-
-/// The clause of an implication of these two trees.
+/// The assertion of an implication of these two trees.
 fn read_implication(
     alloc: Global,
     declared: &Declared,
     vars: &NameTable,
     premise: &Tree,
     head: &Tree,
-) -> Result<Option<Clause>, NoMemory>
+) -> Result<Option<Assertion>, NoMemory>
     requires { length vars.now ≤ most_variables }
-    ensures { Gives result (implication_at (length vars.now) (premise_of declared.now vars.now premise.now) (head_of declared.now vars.now head.now)) }
+    ensures { Gives result (implication_at (length vars.now) (parts_of declared.now vars.now (conjuncts_of premise.now)) (head_of declared.now vars.now head.now)) }
 {
-    let Some(premise) = read_premise(alloc, declared, vars, premise)? else {
+    let Some(parts) = read_premise(alloc, declared, vars, premise)? else {
         return Ok(None);
     };
     let Some(head) = read_head(alloc, declared, vars, head)? else {
         return Ok(None);
     };
-    let clause = clause_of(alloc, vars.len(), premise, head)?;
-    Ok(Some(clause))
+    let assertion = assertion_of(alloc, vars.len(), parts, head)?;
+    Ok(Some(assertion))
 }
 
-/// The clause that a matrix stands for: an atom or `(=> premise head)`.
+/// The assertion of a matrix under these variables: an atom or `(=> premise head)`.
 fn read_matrix(
     alloc: Global,
     declared: &Declared,
     vars: &NameTable,
     tree: &Tree,
-) -> Result<Option<Clause>, NoMemory>
+) -> Result<Option<Assertion>, NoMemory>
     requires { length vars.now ≤ most_variables }
     ensures { Gives result (matrix_of declared.now vars.now tree.now) }
 {
@@ -94,8 +75,8 @@ fn read_matrix(
     let Some(atom) = read_atom(alloc, declared, vars, tree)? else {
         return Ok(None);
     };
-    let clause = clause_of(alloc, vars.len(), Premise::new(alloc), Some(atom))?;
-    Ok(Some(clause))
+    let assertion = assertion_of(alloc, vars.len(), List::new(alloc), Some(atom))?;
+    Ok(Some(assertion))
 }
 
 /// The name of the variable of a binder, which is `(x Int)`.
@@ -186,12 +167,12 @@ fn forall_of(tree: &Tree) -> Option<(&Tree, &Tree)>
     }
 }
 
-/// The clause that an assertion stands for: a matrix, or one under `forall`.
+/// The assertion that a tree stands for: a matrix, or one under `forall`.
 pub fn read_assertion(
     alloc: Global,
     declared: &Declared,
     tree: &Tree,
-) -> Result<Option<Clause>, NoMemory>
+) -> Result<Option<Assertion>, NoMemory>
     ensures { Gives result (assertion declared.now tree.now) }
 {
     let Some((binders, matrix)) = forall_of(tree) else {

@@ -1,7 +1,11 @@
 //! The predicates that a script has declared.
 
-ghost use Rattle.std.specs.Prelude.{◌≡◌, ◌<◌, ◌≤◌, ◌^◌, false, length, IfOk, IfSome};
+ghost use Rattle.std.specs.Prelude.{◌≡◌, ◌<◌, ◌≤◌, ◌^◌, false, length, IsTrue, IfOk, IfSome};
+ghost use Rattle.std.specs.List.{AllByRecursion, list_all};
+ghost use Rattle.chc_sexpr.specs.Names.{AreNames};
+ghost use Rattle.chc_sexpr.specs.Spelling.{is_quotable};
 ghost use Rattle.chc_script.specs.Clauses.{DeclaredView, ints, most_predicates, no_predicates, takes, with_predicate};
+ghost use Rattle.chc_script.specs.Made.{HasInts};
 ghost use Rattle.chc_script.specs.Names.{has_name};
 ghost use Rattle.chc_script.specs.Terms.{number_of};
 
@@ -11,7 +15,8 @@ use chc_state::PredDecl;
 use std::alloc::Global;
 use std::marker::Model;
 
-/// The declared predicates with their names. There are at most 65,536.
+/// The declared predicates with their names. There are at most 65,536, no name stands twice, and all positions are of
+/// sort `Int`.
 #[derive(Drop)]
 pub struct Declared {
     names: NameTable,
@@ -20,9 +25,12 @@ pub struct Declared {
 
 impl Model for Declared {
     ghost use Rattle.std.specs.Prelude.{◌≡◌, ◌≤◌, length};
-    ghost use Rattle.chc_script.specs.Clauses.{DeclaredView, most_predicates};
     ghost use Rattle.std.specs.Coded.{codes};
+    ghost use Rattle.std.specs.List.{AllByRecursion};
     ghost use Rattle.chc_sorts.specs.contracts.sort.Sort as sort;
+    ghost use Rattle.chc_sexpr.specs.Names.{AreNames};
+    ghost use Rattle.chc_script.specs.Clauses.{DeclaredView, most_predicates};
+    ghost use Rattle.chc_script.specs.Made.{HasInts};
 
     ghost Value = { DeclaredView };
 
@@ -30,7 +38,7 @@ impl Model for Declared {
 
     ghost view = { λ d. record { names = d.names; preds = d.preds } };
 
-    ghost invariant = { λ d. (length d.names ≡ length d.preds) × (length d.preds ≤ most_predicates) };
+    ghost invariant = { λ d. (length d.names ≡ length d.preds) × (length d.preds ≤ most_predicates) × AreNames d.names × AllByRecursion HasInts d.preds };
 }
 
 /// So many sorts `Int`.
@@ -88,9 +96,10 @@ impl Declared {
         }
     }
 
-    /// These predicates and one more, of a new name.
+    /// These predicates and one more, of a new name that can be quoted.
     pub fn with(self, alloc: Global, name: &[u8], count: usize) -> Result<Declared, NoMemory>
         requires fresh { has_name self.names name.now ≡ false }
+        requires quotable { IsTrue (list_all is_quotable name.now) }
         requires few { length self.names < most_predicates }
         ensures { IfOk result (λ more. more ≡ with_predicate self name.now count) }
     {
@@ -108,6 +117,10 @@ impl Declared {
     pub fn into_parts(self) -> (NameTable, List<PredDecl>)
         ensures names { result.0 ≡ self.names }
         ensures preds { result.1 ≡ self.preds }
+        ensures same { length self.names ≡ length self.preds }
+        ensures few { length self.preds ≤ most_predicates }
+        ensures apart { AreNames self.names }
+        ensures ints { AllByRecursion HasInts self.preds }
     {
         let Declared { names, preds } = self;
         (names, preds)

@@ -1,21 +1,23 @@
 //! Drafts of scripts, and the commands that work on them.
 
-ghost use Rattle.std.specs.Prelude.{◌≡◌, Some, IsTrue, codes};
+ghost use Rattle.std.specs.Prelude.{◌≡◌, Some, codes};
 ghost use Rattle.std.specs.List.{list_all};
 ghost use Rattle.std.specs.Option.{option_map};
-ghost use Rattle.chc_state.specs.States.{uses_live};
 ghost use Rattle.chc_script.specs.Clauses.{assertion};
+ghost use Rattle.chc_script.specs.Made.{AreMade};
 ghost use Rattle.chc_script.specs.Readings.{Gives};
 ghost use Rattle.chc_script.specs.Shapes.{is_symbol};
-ghost use Rattle.chc_script.specs.Scripts.{assert, at_stage, check, command, command_named, declare, declare_at, declare_parts, fresh, is_checked, is_fresh, is_open, may_declare, positions_of, set_logic, with_clause};
+ghost use Rattle.chc_script.specs.Scripts.{assert, at_stage, check, command, command_named, declare, declare_at, declare_parts, fresh, is_checked, is_fresh, is_open, may_declare, positions_of, set_logic, with_assertion};
 
 use crate::first::assertion::read_assertion;
+use crate::first::build::Assertion;
 use crate::first::declared::Declared;
-use crate::first::names::is_fixed;
+use crate::first::names::{is_fixed, is_quotable};
 use crate::first::shape::{form_of, group_of, is_symbol, symbol_of};
 use chc_sexpr::Tree;
 use chc_sorts::{List, NoMemory};
 use chc_state::Clause;
+use chc_terms::Terms;
 use std::alloc::Global;
 use std::marker::Model;
 
@@ -56,29 +58,29 @@ impl Stage {
     }
 }
 
-/// What the commands so far have made: predicates, and clauses over them alone.
+/// What the commands so far have made: predicates, and assertions over them alone, with the clause of each.
 #[derive(Drop)]
 pub struct Draft {
     stage: Stage,
     declared: Declared,
+    assertions: Terms,
     clauses: List<Clause>,
 }
 
 impl Model for Draft {
-    ghost use Rattle.std.specs.Prelude.{IsTrue};
     ghost use Rattle.std.specs.Coded.{codes};
     ghost use Rattle.chc_sorts.specs.contracts.sort.Sort as sort;
     ghost use Rattle.chc_terms.specs.contracts.term.Term as term;
-    ghost use Rattle.chc_state.specs.States.{uses_live};
+    ghost use Rattle.chc_script.specs.Made.{AreMade};
     ghost use Rattle.chc_script.specs.Scripts.{DraftView};
 
     ghost Value = { DraftView };
 
     ghost coded = { Prim.hlevel (codes, sort.the_row.coded, term.the_row.coded) };
 
-    ghost view = { λ d. record { stage = d.stage; declared = d.declared; clauses = d.clauses } };
+    ghost view = { λ d. record { stage = d.stage; declared = d.declared; assertions = d.assertions; clauses = d.clauses } };
 
-    ghost invariant = { λ d. IsTrue (uses_live d.declared.preds d.clauses) };
+    ghost invariant = { λ d. AreMade d.declared.preds d.assertions d.clauses };
 }
 
 /// Whether each of the trees is the symbol `Int`.
@@ -113,23 +115,26 @@ impl Draft {
         Draft {
             stage: Stage::Fresh,
             declared: Declared::new(alloc),
+            assertions: List::new(alloc),
             clauses: List::new(alloc),
         }
     }
 
-    /// The stage, the declared predicates and the clauses.
-    pub fn into_parts(self) -> (Stage, Declared, List<Clause>)
+    /// The stage, the declared predicates, the assertions and their clauses.
+    pub fn into_parts(self) -> (Stage, Declared, Terms, List<Clause>)
         ensures stage { result.0 ≡ self.stage }
         ensures declared { result.1 ≡ self.declared }
-        ensures clauses { result.2 ≡ self.clauses }
-        ensures live { IsTrue (uses_live self.declared.preds self.clauses) }
+        ensures assertions { result.2 ≡ self.assertions }
+        ensures clauses { result.3 ≡ self.clauses }
+        ensures made { AreMade self.declared.preds self.assertions self.clauses }
     {
         let Draft {
             stage,
             declared,
+            assertions,
             clauses,
         } = self;
-        (stage, declared, clauses)
+        (stage, declared, assertions, clauses)
     }
 
     /// The draft at another stage.
@@ -171,7 +176,8 @@ impl Draft {
         }
     }
 
-    /// Whether a predicate of that name may be declared: there is no clause yet, and the name is new and no fixed one.
+    /// Whether a predicate of that name may be declared: there is no clause yet, and the name is new, no fixed one, and
+    /// can be quoted.
     fn may_declare(&self, name: &[u8]) -> bool
         ensures { result ≡ may_declare self.now name.now }
     {
@@ -179,6 +185,7 @@ impl Draft {
             && self.clauses.len() == 0
             && !is_fixed(name)
             && !self.declared.names().has(name)
+            && is_quotable(name)
             && self.declared.len() < MOST_PREDICATES
     }
 
@@ -197,12 +204,14 @@ impl Draft {
         let Draft {
             stage,
             declared,
+            assertions,
             clauses,
         } = self;
         let declared = declared.with(alloc, name, count)?;
         Ok(Some(Draft {
             stage,
             declared,
+            assertions,
             clauses,
         }))
     }
@@ -239,23 +248,26 @@ impl Draft {
         }
     }
 
-    /// Adds the clause of an assertion.
-    #[tactic(auto, using(crate::proofs::Live::assertion_live))]
+    /// Adds the assertion of a tree, and its clause.
     fn with_assertion(self, alloc: Global, tree: &Tree) -> Result<Option<Draft>, NoMemory>
-        ensures { Gives result (option_map (with_clause self) (assertion self.declared tree.now)) }
+        ensures { Gives result (option_map (with_assertion self) (assertion self.declared tree.now)) }
     {
         let Draft {
             stage,
             declared,
+            mut assertions,
             mut clauses,
         } = self;
-        let Some(clause) = read_assertion(alloc, &declared, tree)? else {
+        let Some(assertion) = read_assertion(alloc, &declared, tree)? else {
             return Ok(None);
         };
+        let Assertion { term, clause } = assertion;
+        assertions.push(term)?;
         clauses.push(clause)?;
         Ok(Some(Draft {
             stage,
             declared,
+            assertions,
             clauses,
         }))
     }

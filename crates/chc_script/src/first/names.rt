@@ -1,6 +1,8 @@
 //! Names with numbers.
 
 ghost use Rattle.std.specs.Prelude.{◌≡◌, ◌<◌, false, [], ◌∷◌, ◌++◌, length, IfOk, IfSome, OnOk};
+ghost use Rattle.std.specs.List.{list_all};
+ghost use Rattle.chc_sexpr.specs.Spelling.{is_quotable};
 ghost use Rattle.chc_script.specs.Names.{has_name, is_fixed};
 ghost use Rattle.chc_script.specs.Terms.{number_of};
 
@@ -121,4 +123,16 @@ pub fn is_fixed(name: &[u8]) -> bool
             | b"select"
             | b"store"
     )
+}
+
+/// Whether the name can stand between the bars of a quoted symbol: it has no bar and no backslash in it.
+pub fn is_quotable(name: &[u8]) -> bool
+    ensures { result ≡ list_all is_quotable name.now }
+{
+    for byte in name {
+        if matches!(*byte, b'|' | b'\\') {
+            return false;
+        }
+    }
+    true
 }

@@ -1,7 +1,7 @@
-//! Atoms and premises.
+//! Atoms and the parts of premises.
 
-ghost use Rattle.std.specs.Prelude.{◌≡◌, ◌<◌, ◌≤◌, ◌^◌, None, Some, length, MatchOption, IfOk};
-ghost use Rattle.chc_script.specs.Clauses.{applied_of, atom_of, atom_on, conjuncts_of, constraint_on, no_premise, part_of, parts_after, premise_of, with_part};
+ghost use Rattle.std.specs.Prelude.{◌≡◌, ◌<◌, ◌≤◌, ◌^◌, None, Some, length, MatchOption};
+ghost use Rattle.chc_script.specs.Clauses.{applied_of, atom_of, atom_on, conjuncts_of, constraint_on, part_of, parts_of};
 ghost use Rattle.chc_script.specs.Readings.{Gives};
 ghost use Rattle.chc_script.specs.Terms.{most_variables};
 
@@ -23,36 +23,8 @@ pub enum Part {
     Atom(Atom),
 }
 
-/// What stands before an implication's head: the constraints and the body atoms, each in order.
-#[derive(Drop)]
-pub struct Premise {
-    pub conj: List<Term>,
-    pub body: List<Atom>,
-}
-
-impl Premise {
-    /// No parts.
-    pub fn new(alloc: Global) -> Premise
-        ensures { result ≡ no_premise }
-    {
-        Premise {
-            conj: List::new(alloc),
-            body: List::new(alloc),
-        }
-    }
-
-    /// The parts with one more behind them.
-    fn with(self, part: Part) -> Result<Premise, NoMemory>
-        ensures { IfOk result (λ longer. longer ≡ with_part self part) }
-    {
-        let Premise { mut conj, mut body } = self;
-        match part {
-            Part::Constraint(term) => conj.push(term)?,
-            Part::Atom(atom) => body.push(atom)?,
-        }
-        Ok(Premise { conj, body })
-    }
-}
+/// Parts in the order of the text.
+pub type Parts = List<Part>;
 
 /// The name and the arguments of a symbol alone, which has none, or of a form.
 fn applied_of(tree: &Tree) -> Option<(&[u8], &[Tree])>
@@ -156,18 +128,18 @@ fn read_parts(
     declared: &Declared,
     vars: &NameTable,
     trees: &[Tree],
-) -> Result<Option<Premise>, NoMemory>
+) -> Result<Option<Parts>, NoMemory>
     requires { length vars.now ≤ most_variables }
-    ensures { Gives result (parts_after declared.now vars.now no_premise trees.now) }
+    ensures { Gives result (parts_of declared.now vars.now trees.now) }
 {
-    let mut premise = Premise::new(alloc);
+    let mut parts = List::new(alloc);
     for tree in trees {
         match read_part(alloc, declared, vars, tree)? {
-            Some(part) => premise = premise.with(part)?,
+            Some(part) => parts.push(part)?,
             None => return Ok(None),
         }
     }
-    Ok(Some(premise))
+    Ok(Some(parts))
 }
 
 /// The parts of `(and part part ..)`, and otherwise the tree alone.
@@ -186,9 +158,9 @@ pub fn read_premise(
     declared: &Declared,
     vars: &NameTable,
     tree: &Tree,
-) -> Result<Option<Premise>, NoMemory>
+) -> Result<Option<Parts>, NoMemory>
     requires { length vars.now ≤ most_variables }
-    ensures { Gives result (premise_of declared.now vars.now tree.now) }
+    ensures { Gives result (parts_of declared.now vars.now (conjuncts_of tree.now)) }
 {
     read_parts(alloc, declared, vars, conjuncts_of(tree))
 }
