@@ -1,15 +1,17 @@
 -- Numerals: which bytes are the decimal digits of a number in range.
-use Rattle.std.proofs.Common.{◌≡◌, ℕ, zero, suc, ◌+◌, ◌*◌, ◌/◌, ◌%◌, ◌^◌, ◌≤◌, ◌<◌, List, [], ◌∷◌, ◌++◌, length, get_or, take, ℤ, pos, negsuc, ap, sym, refl, subst, ◌∙◌, arith, append_assoc, append-nil, length-append, ⊎_elim}
-use Rattle.std.specs.Char.{digit_value}
+use Rattle.std.proofs.Common.{◌≡◌, ℕ, zero, suc, ◌+◌, ◌*◌, ◌/◌, ◌%◌, ◌^◌, ◌≤◌, ◌<◌, List, [], ◌∷◌, ◌++◌, length, get_or, take, Bool, true, not, leb, eqb, ap, sym, refl, ◌∙◌, arith, append_assoc, append-nil, length-append, ⊎_elim}
+use Rattle.std.specs.List.{list_all}
+use Rattle.std.specs.Char.{digit_value, is_ascii_digit}
 use Rattle.std.specs.Fmt.{decimal}
 use Rattle.std.specs.Str.Parse.{AllDigits, digits_value, digits_value_after}
-use Rattle.std.proofs.lemmas.Bool.{ltb-true, lt-ltb, false≢true, cases_lt}
+use Rattle.std.proofs.lemmas.Bool.{and_parts, and_from, not-true, not_from_false, le-leb, eqb-false, ne_eqb, false≢true, cases_lt}
 use Rattle.std.proofs.lemmas.Fmt.{decimal_digit, decimal_step_wide, decimal_by_steps_wide, decimal_is_IsNumeral_wide}
 use Rattle.std.proofs.lemmas.List.{get_or_append_left}
 use Rattle.std.proofs.lemmas.Str.{digit_value_digit}
 use Rattle.std.proofs.lemmas.Int.Digits.{digits_value_more}
 use Rattle.std.proofs.lemmas.Str.Parse.{digit_from_value, digits_value-take-le}
-use Rattle.chc_sexpr.specs.Pieces.{IsNumeralOf}
+use Rattle.chc_sexpr.specs.Tokens.{is_whole_number}
+use Rattle.chc_sexpr.proofs.Runs.{digits_all}
 
 -- a digit is 48 more than its value
 byte_of_digit : (c : ℕ) → digit_value c < 10 → 48 + digit_value c ≡ c
@@ -63,40 +65,53 @@ is_written = decimal_by_steps_wide IsWritten
       short = λ h. omega arith;
     })
 
--- digits that stand for a number in range, at least one, without a needless 0 in front
-pub record IsNumeralText (piece : List ℕ) : Type 0 where
-  pub some : 0 < length piece
-  pub lead : get_or piece 0 0 ≡ 48 → length piece ≡ 1
-  pub digits : AllDigits 10 piece
-  pub small : digits_value 10 piece < 2 ^ 127
+digit_is : (c : ℕ) → digit_value c < 10 → is_ascii_digit c ≡ true
+digit_is c small =
+    let r = digit_from_value c small in
+    and_from (leb 48 c) (leb c 57) (le-leb 48 c (omega (arith, r))) (le-leb c 57 (omega (arith, r)))
 
-text_of_number : (n : ℕ) → n < 2 ^ 127 → IsNumeralText (decimal n)
-text_of_number n small =
+digits_are : (ds : List ℕ) → AllDigits 10 ds → list_all is_ascii_digit ds ≡ true
+digits_are [] all = refl
+digits_are (d ∷ ds) all = and_from (is_ascii_digit d) (list_all is_ascii_digit ds) (digit_is d all.0) (digits_are ds all.1)
+
+-- digits without a needless 0 in front are a whole number
+pub whole_from : (ds : List ℕ) → 0 < length ds → (get_or ds 0 0 ≡ 48 → length ds ≡ 1) → AllDigits 10 ds → is_whole_number ds ≡ true
+whole_from [] some lead all = absurd (omega arith)
+whole_from (d ∷ []) some lead all = digit_is d all.0
+whole_from (d ∷ e ∷ ds) some lead all =
+    let other : d ≡ 48 → ⊥ = λ zero_first. omega (arith, lead zero_first) in
+    and_from (not (eqb d 48)) (list_all is_ascii_digit (d ∷ e ∷ ds)) (not_from_false (eqb d 48) (ne_eqb d 48 other)) (digits_are (d ∷ e ∷ ds) all)
+
+-- a number in range is written as a whole number
+pub whole_decimal : (n : ℕ) → n < 2 ^ 127 → is_whole_number (decimal n) ≡ true
+whole_decimal n small =
     let w = is_written n (omega arith) in
     let read = decimal_is_IsNumeral_wide n (omega arith) in
-    record {
-      some = w.some;
-      lead = λ h. w.short (⊎_elim (λ low. low) (λ high. absurd (omega (arith, h, w.lead (omega arith)))) (cases_lt n 10));
-      digits = read.0.1;
-      small = omega (arith, read.1);
-    }
+    whole_from (decimal n) w.some (λ h. w.short (⊎_elim (λ low. low) (λ high. absurd (omega (arith, h, w.lead (omega arith)))) (cases_lt n 10))) read.0.1
 
--- a numeral is such a text
-pub text_of_numeral : (piece : List ℕ) (number : ℤ) → IsNumeralOf piece number → IsNumeralText piece
-text_of_numeral piece (pos n) is = subst IsNumeralText is.digits (text_of_number n (ltb-true n (2 ^ 127) is.fits))
-text_of_numeral piece (negsuc n) is = absurd (false≢true is.fits)
+-- whose value it is
+pub value_decimal : (n : ℕ) → n < 2 ^ 127 → digits_value 10 (decimal n) ≡ n
+value_decimal n small = (decimal_is_IsNumeral_wide n (omega arith)).1
 
--- whose value is the number
-pub value_of_numeral : (piece : List ℕ) (number : ℤ) → IsNumeralOf piece number → pos (digits_value 10 piece) ≡ number
-value_of_numeral piece (pos n) is = ap pos (ap (digits_value 10) (sym is.digits) ∙ (decimal_is_IsNumeral_wide n (let small = ltb-true n (2 ^ 127) is.fits in omega arith)).1)
-value_of_numeral piece (negsuc n) is = absurd (false≢true is.fits)
+-- a whole number consists of digits
+pub whole_digits : (ds : List ℕ) → is_whole_number ds ≡ true → list_all is_ascii_digit ds ≡ true
+whole_digits [] h = refl
+whole_digits (d ∷ []) h = and_from (is_ascii_digit d) true h refl
+whole_digits (d ∷ e ∷ ds) h = (and_parts (not (eqb d 48)) (list_all is_ascii_digit (d ∷ e ∷ ds)) h).1
 
--- and each such text is a numeral
-pub numeral_of_text : (piece : List ℕ) → IsNumeralText piece → IsNumeralOf piece (pos (digits_value 10 piece))
-numeral_of_text piece t = record {
-  digits = decimal-digits_value piece t.some t.lead t.digits t.small;
-  fits = lt-ltb (digits_value 10 piece) (2 ^ 127) t.small;
-}
+whole_lead : (ds : List ℕ) → is_whole_number ds ≡ true → get_or ds 0 0 ≡ 48 → length ds ≡ 1
+whole_lead [] h first = absurd (false≢true h)
+whole_lead (d ∷ []) h first = refl
+whole_lead (d ∷ e ∷ ds) h first =
+    absurd (eqb-false d 48 (not-true (eqb d 48) (and_parts (not (eqb d 48)) (list_all is_ascii_digit (d ∷ e ∷ ds)) h).0) first)
+
+whole_some : (ds : List ℕ) → is_whole_number ds ≡ true → 0 < length ds
+whole_some [] h = absurd (false≢true h)
+whole_some (d ∷ ds) h = omega arith
+
+-- each whole number in range is what its value is written as
+pub decimal_whole : (ds : List ℕ) → is_whole_number ds ≡ true → digits_value 10 ds < 2 ^ 127 → decimal (digits_value 10 ds) ≡ ds
+decimal_whole ds h small = decimal-digits_value ds (whole_some ds h) (whole_lead ds h) (digits_all ds (whole_digits ds h)) small
 
 digit_value_at : (bytes : List ℕ) (i : ℕ) → AllDigits 10 bytes → i < length bytes → digit_value (get_or bytes i 0) < 10
 digit_value_at [] i all h = absurd (omega arith)

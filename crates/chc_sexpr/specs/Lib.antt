@@ -1,8 +1,7 @@
 pub mod Drafts
 pub mod Faults
-pub mod Lexemes
-pub mod Pieces
+pub mod Names
+pub mod Scanning
+pub mod Spelling
 pub mod Tokens
 pub mod Trees
-pub mod Spelling
-pub mod Names

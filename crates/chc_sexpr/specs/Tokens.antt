@@ -1,5 +1,5 @@
 -- The bytes and words of which tokens are made.
-use Rattle.std.specs.Prelude.{ℕ, ◌^◌, ◌==◌, Bool, false, not, ◌&&◌, ◌||◌, List, [], ◌∷◌, ℤ, pos, negsuc, nat_lt, codes}
+use Rattle.std.specs.Prelude.{ℕ, ◌==◌, Bool, false, not, ◌&&◌, ◌||◌, List, [], ◌∷◌, codes}
 use Rattle.std.specs.List.{list_all, list_any}
 use Rattle.std.specs.Char.{is_ascii_digit, is_ascii_alphanumeric}
 use Rattle.std.specs.Str.{bytes_eq}
@@ -7,10 +7,6 @@ use Rattle.std.specs.Str.{bytes_eq}
 -- tab, line feed, carriage return and space
 abbrev pub is_white : ℕ → Bool
 is_white b = b == 32 || b == 10 || b == 13 || b == 9
-
--- a byte that goes on with a token: it is no white space and no parenthesis
-abbrev pub is_token_byte : ℕ → Bool
-is_token_byte b = not (is_white b || b == 40 || b == 41)
 
 -- the bytes of symbols besides letters and digits
 abbrev pub is_symbol_sign : ℕ → Bool
@@ -34,7 +30,12 @@ reserved_words =
 abbrev pub is_reserved : List ℕ → Bool
 is_reserved bs = list_any (bytes_eq bs) reserved_words
 
--- the numbers that numerals may stand for: 0 to 2^127 - 1
-abbrev pub is_numeral_value : ℤ → Bool
-is_numeral_value (pos n) = nat_lt n (2 ^ 127)
-is_numeral_value (negsuc n) = false
+-- a byte that goes on with a comment: any but a line feed
+abbrev pub is_commented : ℕ → Bool
+is_commented b = not (b == 10)
+
+-- digits, of which the first is no needless 0
+abbrev pub is_whole_number : List ℕ → Bool
+is_whole_number [] = false
+is_whole_number (b ∷ []) = is_ascii_digit b
+is_whole_number (b ∷ c ∷ cs) = not (b == 48) && list_all is_ascii_digit (b ∷ c ∷ cs)

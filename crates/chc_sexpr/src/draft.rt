@@ -1,9 +1,7 @@
 //! What a reader of trees has read so far.
 
-ghost use Rattle.std.specs.Prelude.{◌≡◌, ◌<◌, ℕ, List, [], ◌∷◌, length, OnOk};
-ghost use Rattle.chc_sexpr.specs.Drafts.{GoesOn};
-ghost use Rattle.chc_sexpr.specs.Pieces.{IsToken};
-ghost use Rattle.chc_sexpr.specs.Lexemes.{Open, Close, Piece, most_open};
+ghost use Rattle.std.specs.Prelude.{◌≡◌, ◌<◌, [], ◌∷◌, ◌++◌, length, OnOk};
+ghost use Rattle.chc_sexpr.specs.Drafts.{Closes};
 
 use crate::tree::{Tree, Trees};
 use chc_sorts::{List, NoMemory};
@@ -40,8 +38,8 @@ impl Draft {
 
     /// Reads a `(`.
     pub fn open(&mut self, alloc: Global, place: u64) -> Result<(), NoMemory>
-        requires { length self.old.groups < most_open }
-        ensures { OnOk result (GoesOn self.old self.new (Open place)) }
+        ensures groups { OnOk result (self.new.groups ≡ self.old.groups ++ record { place = place; before = self.old.trees } ∷ []) }
+        ensures trees { OnOk result (self.new.trees ≡ []) }
     {
         let before = mem::replace(&mut self.trees, List::new(alloc));
         self.groups.push(OpenGroup { place, before })?;
@@ -51,7 +49,7 @@ impl Draft {
     /// Reads a `)`.
     pub fn close(&mut self) -> Result<(), NoMemory>
         requires { 0 < length self.old.groups }
-        ensures { OnOk result (GoesOn self.old self.new Close) }
+        ensures { OnOk result (Closes self.old self.new) }
     {
         if let Some(OpenGroup { place, before }) = self.groups.pop() {
             let inner = mem::replace(&mut self.trees, before);
@@ -60,9 +58,10 @@ impl Draft {
         Ok(())
     }
 
-    /// Reads a tree that is one piece.
+    /// Reads a tree that is a token.
     pub fn add(&mut self, tree: Tree) -> Result<(), NoMemory>
-        ensures { OnOk result ((place : ℕ) (piece : List ℕ) → IsToken place piece tree → GoesOn self.old self.new (Piece place piece)) }
+        ensures groups { OnOk result (self.new.groups ≡ self.old.groups) }
+        ensures trees { OnOk result (self.new.trees ≡ self.old.trees ++ tree ∷ []) }
     {
         self.trees.push(tree)?;
         Ok(())

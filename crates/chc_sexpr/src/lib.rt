@@ -3,13 +3,12 @@
 
 mod draft;
 mod fault;
-mod read;
+mod kind;
 mod text;
 mod token;
 mod tree;
 
 pub use fault::{Fault, TextErr, TextFault};
-pub use read::{read_plain, trees_are_spelled_once};
 pub use text::read_trees;
 pub use token::{is_reserved, is_simple_symbol};
 pub use tree::{Tree, Trees};

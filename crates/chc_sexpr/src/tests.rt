@@ -1,33 +1,136 @@
-//! Trees of small texts, and texts that are no plain ones.
+//! Trees of small texts, and the faults of texts that spell none.
 
-use crate::fault::Fault;
-use crate::read::read_plain;
+use crate::fault::{Fault, TextErr};
+use crate::text::read_trees;
 use crate::tree::{Tree, Trees};
 use chc_sorts::NoMemory;
 use chc_source::ByteText;
 use std::alloc::Global;
 
-/// Whether a text is a plain one, or `None` where memory was refused.
-fn is_plain(alloc: Global, bytes: &[u8]) -> Option<bool> {
-    match read_plain(alloc, bytes) {
-        Ok(read) => Some(read.is_some()),
-        Err(_) => None,
+/// A letter for the kind of a tree.
+fn letter(tree: &Tree) -> u8 {
+    match tree {
+        Tree::Symbol(_, _) => b's',
+        Tree::Word(_, _) => b'w',
+        Tree::Keyword(_, _) => b'k',
+        Tree::Numeral(_, _) => b'n',
+        Tree::Text(_, _) => b't',
+        Tree::Other(_, _) => b'o',
+        Tree::Group(_, _) => b'g',
     }
 }
 
-/// As many `(` as `deep`, and then as many `)`.
-fn nested(alloc: Global, deep: usize) -> Result<ByteText, NoMemory> {
+/// Whether the trees are of these kinds, in this order.
+fn are_kinds(trees: &Trees, kinds: &[u8]) -> bool {
+    if trees.len() != kinds.len() {
+        return false;
+    }
+    for (tree, kind) in trees.as_slice().iter().zip(kinds) {
+        if letter(tree) != *kind {
+            return false;
+        }
+    }
+    true
+}
+
+/// Whether the trees are one token at place 1, of the kind and of the bytes.
+fn is_token(trees: &Trees, kind: u8, bytes: &[u8]) -> bool {
+    match trees.as_slice() {
+        [
+            tree @ (Tree::Symbol(1, text)
+            | Tree::Word(1, text)
+            | Tree::Keyword(1, text)
+            | Tree::Text(1, text)
+            | Tree::Other(1, text)),
+        ] => letter(tree) == kind && text.bytes() == bytes,
+        _ => false,
+    }
+}
+
+/// As many `(` as `deep`, and then as many `)` as `closed`.
+fn nested(alloc: Global, deep: usize, closed: usize) -> Result<ByteText, NoMemory> {
     let mut text = ByteText::new(alloc);
     for _ in 0..deep {
         text.push(b'(')?;
     }
-    for _ in 0..deep {
+    for _ in 0..closed {
         text.push(b')')?;
     }
     Ok(text)
 }
 
-/// Whether the trees are a group, which holds a symbol, a numeral and an empty group, and a word behind it, each at its place.
+/// Whether a text has this fault at this place, about no name.
+fn has_fault(alloc: Global, text: &[u8], fault: Fault, place: u64) -> bool {
+    if text.len() >= 1000000 {
+        return false;
+    }
+    match read_trees(alloc, text) {
+        Err(TextErr::At(found)) => {
+            found.fault == fault && found.place == place && found.name.len() == 0
+        }
+        _ => false,
+    }
+}
+
+#[test]
+fn each_kind_of_token_is_read(rt: HostRuntime) {
+    let tokens = [
+        (b" a+0".as_slice(), b's', b"a+0".as_slice()),
+        (b" |a b;\n\"(|", b's', b"a b;\n\"("),
+        (b" ||", b's', b""),
+        (b" |let|", b's', b"let"),
+        (b"\tlet", b'w', b"let"),
+        (b"\n:1a", b'k', b":1a"),
+        (b"\r\"a\"\"b;|\xff\"", b't', b"a\"b;|\xff"),
+        (b" \"\"", b't', b""),
+        (b" 1.50", b'o', b"1.50"),
+        (
+            b" 1234567890123456789012345678901234567890123456789012345678901234567890.0",
+            b'o',
+            b"1234567890123456789012345678901234567890123456789012345678901234567890.0",
+        ),
+        (b" #xaF0", b'o', b"#xaF0"),
+        (b" #b01", b'o', b"#b01"),
+    ];
+    for (text, kind, bytes) in tokens {
+        match read_trees(rt.alloc(), text) {
+            Ok(trees) => assert!(rt;
+                is_token(&trees, kind, bytes),
+                "at {}",
+                text.len()
+            ),
+            Err(_) => assert!(rt; false, "at {}", text.len()),
+        }
+    }
+}
+
+#[test]
+fn trees_stand_side_by_side(rt: HostRuntime) {
+    let texts = [
+        (b"".as_slice(), b"".as_slice()),
+        (b" ; nothing (", b""),
+        (b"a;b\nc;d\re", b"ss"),
+        (b"|a|b", b"ss"),
+        (b"a|b|", b"ss"),
+        (b"#b12", b"on"),
+        (b"a#b1", b"so"),
+        (b"\"a\" \"b\":c:d", b"ttkk"),
+        (b"1()0.5(2(;)\n))let", b"ngogw"),
+    ];
+    for (text, kinds) in texts {
+        match read_trees(rt.alloc(), text) {
+            Ok(trees) => assert!(rt;
+                are_kinds(&trees, kinds),
+                "at {}",
+                text.len()
+            ),
+            Err(_) => assert!(rt; false, "at {}", text.len()),
+        }
+    }
+}
+
+/// Whether the trees are a group, which holds a symbol, a numeral and an empty group, and a word behind it, each at its
+/// place.
 fn is_example(trees: &Trees) -> bool {
     match trees.as_slice() {
         [Tree::Group(1, inner), Tree::Word(15, word)] => {
@@ -47,46 +150,59 @@ fn is_example(trees: &Trees) -> bool {
 
 #[test]
 fn trees_stand_at_their_places(rt: HostRuntime) {
-    let text = b" (p! 120 ( \r\t))let\n";
-    match read_plain(rt.alloc(), text) {
-        Ok(Some(trees)) => assert!(rt; is_example(&trees)),
-        _ => assert!(rt; false),
+    match read_trees(rt.alloc(), b" (p! 120 ( \r\t))let\n") {
+        Ok(trees) => assert!(rt; is_example(&trees)),
+        Err(_) => assert!(rt; false),
     }
 }
 
 #[test]
-fn texts_are_plain_or_not(rt: HostRuntime) {
-    let plain = [
-        b"".as_slice(),
-        b"0".as_slice(),
-        b"x0 _y -1 <= (a)b(c)".as_slice(),
-        b"170141183460469231731687303715884105727".as_slice(),
-    ];
-    for text in plain {
-        assert!(rt;
-            is_plain(rt.alloc(), text) == Some(true),
-            "at {}",
-            text.len()
-        );
+fn the_largest_numeral_is_read(rt: HostRuntime) {
+    match read_trees(rt.alloc(), b"170141183460469231731687303715884105727") {
+        Ok(trees) => match trees.as_slice() {
+            [Tree::Numeral(0, number)] => assert!(rt; *number == i128::MAX),
+            _ => assert!(rt; false),
+        },
+        Err(_) => assert!(rt; false),
     }
-    let others = [
-        b"a ; b".as_slice(),
-        b"|a|".as_slice(),
-        b"\"a\"".as_slice(),
-        b":a".as_slice(),
-        b"#x1".as_slice(),
-        b"1.5".as_slice(),
-        b"00".as_slice(),
-        b"01".as_slice(),
-        b"1a".as_slice(),
-        b"(".as_slice(),
-        b"(a))".as_slice(),
-        b"\xc3\xa4".as_slice(),
-        b"170141183460469231731687303715884105728".as_slice(),
+}
+
+#[test]
+fn faults_stand_at_their_places(rt: HostRuntime) {
+    let faults = [
+        (b"(\xc3\xa4".as_slice(), Fault::BadByte, 1),
+        (b"a ,", Fault::BadByte, 2),
+        (b"a:", Fault::BadByte, 1),
+        (b"(1.", Fault::BadByte, 2),
+        (b"1.5.", Fault::BadByte, 3),
+        (b"12a", Fault::BadByte, 2),
+        (b"#c", Fault::BadByte, 0),
+        (b"#xg", Fault::BadByte, 0),
+        (b"#x1g", Fault::BadByte, 3),
+        (b"#b1a", Fault::BadByte, 3),
+        (b"#b12a", Fault::BadByte, 4),
+        (b" |a\\", Fault::BadByte, 3),
+        (b" |a;b", Fault::OpenQuoted, 1),
+        (b" \"a\"\"", Fault::OpenString, 1),
+        (b"(a) (b (c d)", Fault::OpenParen, 4),
+        (b"(a (b) ; )", Fault::OpenParen, 0),
+        (b"(a))(", Fault::StrayParen, 3),
+        (b" 01", Fault::LeadingZero, 1),
+        (b"00.5", Fault::LeadingZero, 0),
+        (
+            b" 170141183460469231731687303715884105728",
+            Fault::NumeralTooLarge,
+            1,
+        ),
+        (
+            b"170141183460469231731687303715884105728a",
+            Fault::NumeralTooLarge,
+            0,
+        ),
     ];
-    for text in others {
+    for (text, fault, place) in faults {
         assert!(rt;
-            is_plain(rt.alloc(), text) == Some(false),
+            has_fault(rt.alloc(), text, fault, place),
             "at {}",
             text.len()
         );
@@ -95,10 +211,20 @@ fn texts_are_plain_or_not(rt: HostRuntime) {
 
 #[test]
 fn a_thousand_groups_may_stand_within_one_another(rt: HostRuntime) {
-    for (deep, want) in [(1000, true), (1001, false)] {
-        match nested(rt.alloc(), deep) {
+    match nested(rt.alloc(), 1000, 1000) {
+        Ok(text) => match text.len() < 1000000 {
+            true => assert!(rt; read_trees(rt.alloc(), text.bytes()).is_ok()),
+            false => assert!(rt; false),
+        },
+        Err(_) => assert!(rt; false),
+    }
+    for (deep, fault, place) in [
+        (1001, Fault::TooDeep, 1000),
+        (1000, Fault::OpenParen, 999),
+    ] {
+        match nested(rt.alloc(), deep, 0) {
             Ok(text) => assert!(rt;
-                is_plain(rt.alloc(), text.bytes()) == Some(want),
+                has_fault(rt.alloc(), text.bytes(), fault, place),
                 "at {deep}"
             ),
             Err(_) => assert!(rt; false),

@@ -3,6 +3,7 @@
 
 mod hashing;
 mod read;
+mod shape;
 mod text;
 mod trace;
 

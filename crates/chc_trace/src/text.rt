@@ -1,9 +1,10 @@
 //! The text of a trace.
 
 ghost use Rattle.std.specs.Prelude.{◌≡◌, ◌++◌, [], ◌∷◌, codes, decimal, map, OnOk, IfOk};
-ghost use Rattle.std.specs.List.{concat};
+ghost use Rattle.std.specs.List.{concat, All};
 ghost use Rattle.hex.specs.Hex.{encode_lower};
-ghost use Rattle.chc_trace.specs.Traces.{numbers_text, step_line, step_text, in_string, string_text, trace_lines};
+ghost use Rattle.chc_sexpr.specs.Spelling.{in_string, string_of};
+ghost use Rattle.chc_trace.specs.Traces.{numbers_text, step_line, step_text, trace_lines, AreSmall, HasSmallNumbers, IsDigest, SaysTrace};
 
 use crate::trace::Trace;
 use chc_sorts::{List, NoMemory};
@@ -24,7 +25,8 @@ fn write_number(out: &mut ByteText, n: u32) -> Result<(), NoMemory>
 
 /// Writes numbers in decimal, with a space before each.
 fn write_numbers(out: &mut ByteText, numbers: &[u32]) -> Result<(), NoMemory>
-    ensures { OnOk result (out.new ≡ out.old ++ numbers_text numbers.now) }
+    ensures text { OnOk result (out.new ≡ out.old ++ numbers_text numbers.now) }
+    ensures small { OnOk result (AreSmall numbers.now) }
 {
     for n in numbers {
         write_number(out, *n)?;
@@ -34,7 +36,8 @@ fn write_numbers(out: &mut ByteText, numbers: &[u32]) -> Result<(), NoMemory>
 
 /// Writes the line of a step that takes a list of predicates.
 fn write_step_line(out: &mut ByteText, kind: &[u8], preds: &[u32]) -> Result<(), NoMemory>
-    ensures { OnOk result (out.new ≡ out.old ++ step_line kind.now preds.now) }
+    ensures text { OnOk result (out.new ≡ out.old ++ step_line kind.now preds.now) }
+    ensures small { OnOk result (AreSmall preds.now) }
 {
     out.extend(b"(step ")?;
     out.extend(kind)?;
@@ -45,7 +48,8 @@ fn write_step_line(out: &mut ByteText, kind: &[u8], preds: &[u32]) -> Result<(),
 
 /// Writes the line of a step.
 fn write_step(out: &mut ByteText, step: &Step) -> Result<(), NoMemory>
-    ensures { OnOk result (out.new ≡ out.old ++ step_text step.now) }
+    ensures text { OnOk result (out.new ≡ out.old ++ step_text step.now) }
+    ensures small { OnOk result (HasSmallNumbers step.now) }
 {
     match step {
         Step::Unreached(preds) => {
@@ -61,7 +65,8 @@ fn write_step(out: &mut ByteText, step: &Step) -> Result<(), NoMemory>
 
 /// Writes the lines of the steps.
 fn write_steps(out: &mut ByteText, steps: &[Step]) -> Result<(), NoMemory>
-    ensures { OnOk result (out.new ≡ out.old ++ concat (map step_text steps.now)) }
+    ensures text { OnOk result (out.new ≡ out.old ++ concat (map step_text steps.now)) }
+    ensures small { OnOk result (All HasSmallNumbers steps.now) }
 {
     for step in steps {
         write_step(out, step)?;
@@ -92,7 +97,7 @@ fn write_bytes(out: &mut ByteText, bytes: &[u8]) -> Result<(), NoMemory>
 
 /// Writes the string of the bytes.
 fn write_string(out: &mut ByteText, bytes: &[u8]) -> Result<(), NoMemory>
-    ensures { OnOk result (out.new ≡ out.old ++ string_text bytes.now) }
+    ensures { OnOk result (out.new ≡ out.old ++ string_of bytes.now) }
 {
     out.push(b'"')?;
     write_bytes(out, bytes)?;
@@ -101,7 +106,7 @@ fn write_string(out: &mut ByteText, bytes: &[u8]) -> Result<(), NoMemory>
 }
 
 /// The digits of a digest in hexadecimal, lower case.
-fn hex_digits(digest: &[u8; 32]) -> [u8; 64]
+pub fn hex_digits(digest: &[u8; 32]) -> [u8; 64]
     ensures { result ≡ encode_lower digest.now }
 {
     let mut digits = [0u8; 64];
@@ -113,7 +118,8 @@ fn hex_digits(digest: &[u8; 32]) -> [u8; 64]
 
 /// Writes the line of the source's digest.
 fn write_source(out: &mut ByteText, source: &[u8; 32]) -> Result<(), NoMemory>
-    ensures { OnOk result (out.new ≡ out.old ++ codes "(source " ++ string_text (encode_lower source.now) ++ codes ")\n") }
+    ensures digest { OnOk result (IsDigest source.now) }
+    ensures text { OnOk result (out.new ≡ out.old ++ codes "(source " ++ string_of (encode_lower source.now) ++ codes ")\n") }
 {
     let digits = hex_digits(source);
     out.extend(b"(source ")?;
@@ -122,9 +128,10 @@ fn write_source(out: &mut ByteText, source: &[u8; 32]) -> Result<(), NoMemory>
     Ok(())
 }
 
-/// The text of a trace.
+/// The text of a trace, which says that trace: `read_trace` reads it again.
 pub fn trace_text(alloc: Global, t: &Trace) -> Result<ByteText, NoMemory>
-    ensures { IfOk result (λ text. text ≡ trace_lines t.now) }
+    ensures lines { IfOk result (λ text. text ≡ trace_lines t.now) }
+    ensures again { IfOk result (λ text. SaysTrace text t.now) }
 {
     let mut out = ByteText::new(alloc);
     out.extend(b"(chc-trace 1)\n")?;

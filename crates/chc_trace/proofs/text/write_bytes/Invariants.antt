@@ -1,6 +1,6 @@
 use Rattle.std.proofs.Common.{◌≡◌, ◌++◌, drop, map}
 use Rattle.std.specs.List.{concat}
-use Rattle.chc_trace.specs.Traces.{in_string}
+use Rattle.chc_sexpr.specs.Spelling.{in_string}
 use Rattle.chc_trace.proofs.text.write_bytes.Given as goal
 
 abbrev pub invariant-loop-b : goal.invariant-loop-b
