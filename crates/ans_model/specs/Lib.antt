@@ -1,1 +1,7 @@
+pub mod Bodies
+pub mod Counts
 pub mod Models
+pub mod Readings
+pub mod Scopes
+pub mod Shapes
+pub mod Texts

@@ -3,6 +3,7 @@
 
 mod read;
 mod text;
+mod typed;
 
 pub use read::read_defs;
 pub use text::defs_text;

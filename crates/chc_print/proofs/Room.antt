@@ -30,7 +30,7 @@ binders_spaced names i (s ∷ sorts) =
 binder_some : (names : Names) (i : ℕ) (s : Sort) → 1 ≤ length (binder_text names i s)
 binder_some names i s = omega arith
 
-binders_joined : (names : Names) (i : ℕ) (sorts : List Sort) → length sorts ≤ length (joined (binder_texts names i sorts))
+pub binders_joined : (names : Names) (i : ℕ) (sorts : List Sort) → length sorts ≤ length (joined (binder_texts names i sorts))
 binders_joined names i [] = omega arith
 binders_joined names i (s ∷ sorts) =
     let rest = binders_spaced names (i + 1) sorts in

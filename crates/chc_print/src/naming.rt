@@ -7,12 +7,16 @@ ghost use Rattle.chc_print.specs.Texts.{Names, name_at, data_name, ctor_name, fi
 use chc_sorts::{Ctor, List, Name, Sig};
 use std::marker::Model;
 
-/// The signature, the names of predicates and definitions by number, and the prefix of the variables' names.
+/// What a text takes its names from. A number without a name is written with the empty one.
 #[derive(Debug, Drop)]
 pub struct Naming<'a> {
+    /// The signature, which names datatypes, constructors and selectors.
     pub sig: &'a Sig,
+    /// The names of predicates, by number.
     pub preds: &'a List<Name>,
+    /// The names of definitions, by number.
     pub calls: &'a List<Name>,
+    /// What the names of variables begin with; the variable's number follows.
     pub prefix: &'a [u8],
 }
 

@@ -87,7 +87,8 @@ fn marked_prefix(alloc: Global, marks: usize) -> Result<ByteText, NoMemory>
     Ok(prefix)
 }
 
-/// The prefix with the fewest exclamation marks that no name begins with, with a digit behind it.
+/// What the names of variables begin with beside these names: an `x` with the fewest exclamation marks for which no name
+/// begins so with a digit behind it. The only error is that memory was refused.
 pub fn variable_prefix(alloc: Global, names: &[Name]) -> Result<ByteText, NoMemory>
     ensures { IfOk result (λ prefix. IsVariablePrefix names.now prefix) }
 {

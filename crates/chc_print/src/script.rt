@@ -1,6 +1,6 @@
 //! The text of a script.
 
-ghost use Rattle.std.specs.Prelude.{◌≡◌, ◌≢◌, ◌+◌, ◌≤◌, ◌++◌, ◌↔◌, [], codes, map, length, IsTrue, IfOk, OnOk};
+ghost use Rattle.std.specs.Prelude.{◌≡◌, ◌≢◌, ℕ, ◌+◌, ◌≤◌, ◌++◌, ◌↔◌, List, [], codes, map, length, IsTrue, IfOk, OnOk};
 ghost use Rattle.std.specs.List.{concat};
 ghost use Rattle.chc_print.specs.Texts.{spaced};
 ghost use Rattle.chc_print.specs.Script.{atom_text, head_text, part_texts, tail_text, matrix_text, closed, clause_text, declaration_text, live_text, declarations_text, lines_of_script, IsScriptText};
@@ -211,10 +211,12 @@ fn text_of(alloc: Global, s: &State, names: &Naming) -> Result<ByteText, NoMemor
 }
 
 /// The text of the script of a state, whose predicates have these names by number, live or not.
-/// A predicate without a name is written with the empty one. The text ends with `(check-sat)`.
+/// A predicate without a name is written with the empty one. The text ends with `(check-sat)`. It is the
+/// only text of the state's script. The only error is that memory was refused.
 pub fn script_text(alloc: Global, s: &State, names: &List<Name>) -> Result<ByteText, NoMemory>
     requires { s.now.sig.datatypes ≡ [] }
-    ensures { IfOk result (λ text. IsScriptText s.now names.now text) }
+    ensures text { IfOk result (IsScriptText s.now names.now) }
+    ensures only { IfOk result (λ text. (other : List ℕ) → IsScriptText s.now names.now other → other ≡ text) }
 {
     let prefix = variable_prefix(alloc, names.as_slice())?;
     let calls = List::new(alloc);

@@ -92,7 +92,7 @@ fn is_bare(name: &[u8]) -> bool
 }
 
 /// Writes a name as a symbol: as it is, or between bars where it isn't a simple symbol, or is a word of the language or
-/// the name of a command.
+/// the name of a command. The only error is that memory was refused.
 #[tactic(auto, unfolding(crate::specs::Symbols::symbol_text))]
 pub fn write_symbol(out: &mut ByteText, name: &[u8]) -> Result<(), NoMemory>
     ensures { OnOk result (out.new ≡ out.old ++ symbol_text name.now) }

@@ -44,7 +44,8 @@ fn write_truth(out: &mut ByteText, b: bool) -> Result<(), NoMemory>
     }
 }
 
-/// Writes a sort.
+/// Writes a sort; a datatype by its name in the signature, or the empty name where it has none there. The only error is
+/// that memory was refused.
 pub fn write_sort(out: &mut ByteText, sig: &Sig, sort: &Sort) -> Result<(), NoMemory>
     ensures { OnOk result (out.new ≡ out.old ++ sort_text sig.now sort.now) }
 {
@@ -182,8 +183,24 @@ fn write_more_binders(
     Ok(())
 }
 
-/// Writes the binders of variables from the number `from` on, with a space between each two.
-fn write_binders(
+/// Writes the binders of variables of these sorts, numbered from `from` on, with a space between each two. The text has
+/// as many bytes then as the number of the last variable says. The only error is that memory was refused.
+pub fn write_binders(
+    out: &mut ByteText,
+    names: &Naming,
+    from: u64,
+    sorts: &[Sort],
+) -> Result<(), NoMemory>
+    requires { from ≤ length out.old }
+    ensures text { OnOk result (out.new ≡ out.old ++ joined (binder_texts names.now from sorts.now)) }
+    ensures room { OnOk result (from + length sorts.now ≤ length out.new) }
+{
+    write_binder_texts(out, names, from, sorts)?;
+    Ok(())
+}
+
+/// Writes binders, with a space between each two.
+fn write_binder_texts(
     out: &mut ByteText,
     names: &Naming,
     from: u64,
@@ -269,7 +286,8 @@ fn write_closing(out: &mut ByteText, arguments: &[Term]) -> Result<(), NoMemory>
     }
 }
 
-/// Writes a term that stands under so many variables; a quantifier in it binds the next numbers.
+/// Writes a term that stands under so many variables; a quantifier in it binds the next numbers. The text has at least
+/// as many bytes as there are variables, which their binders take. The only error is that memory was refused.
 #[cycle(terms)]
 pub fn write_term(
     out: &mut ByteText,

@@ -1,0 +1,13 @@
+pub mod Lines
+pub mod WrittenForms
+pub mod WrittenScopes
+pub mod WrittenNames
+pub mod WrittenTrees
+pub mod WrittenBinders
+pub mod WrittenOps
+pub mod WrittenTexts
+pub mod WrittenReadings
+pub mod WrittenTerms
+pub mod WrittenTables
+pub mod WrittenDefs
+pub mod WrittenAnswers
