@@ -11,3 +11,10 @@ pub mod WrittenTerms
 pub mod WrittenTables
 pub mod WrittenDefs
 pub mod WrittenAnswers
+pub mod Apart
+pub mod Reading
+pub mod Room
+pub mod Scoping
+pub mod SortTests
+pub mod Tables
+pub mod TypedLaws

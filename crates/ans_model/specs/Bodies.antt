@@ -1,8 +1,9 @@
 -- The terms that trees stand for, with their sorts.
-use Rattle.std.specs.Prelude.{ℕ, ℤ, pos, neg_ℤ, true, false, cond, List, [], ◌∷◌, ◌++◌, map, Option, Some, None, codes}
+use Rattle.std.specs.Prelude.{ℕ, ℤ, pos, neg_ℤ, Bool, true, false, ◌&&◌, cond, nat_eq, List, [], ◌∷◌, ◌++◌, map, Option, Some, None, codes}
 use Rattle.std.specs.Option.{option_map, option_or}
 use Rattle.std.specs.Str.{bytes_eq}
 use Rattle.chc_sorts.specs.Signature.{no_datatypes}
+use Rattle.chc_sorts.specs.declared.sort.Sort.{Sort}
 use Rattle.chc_sorts.specs.declared.sort.Sort.TheVariants as sort
 use Rattle.chc_sorts.specs.declared.op.Op.{Op}
 use Rattle.chc_sorts.specs.declared.op.Op.TheVariants as op
@@ -71,11 +72,13 @@ abbrev pub operation : Op → List (Tree × Reading) → Reading
 operation op.Sub (t ∷ []) = negation (numeral_of t.0) t.1
 operation o trees = application o (map (λ t. t.1) trees)
 
--- a quantifier over variables on a term, where it is one of sort Bool
+-- a quantifier over variables of these sorts on a term, where it is one of sort Bool
+abbrev pub quantified_over : Kind → List Sort → Typed → Option Typed
+quantified_over k sorts body = option_map (λ s. record { term = term.Quant k sorts body.term; sort = s }) (quantifier_sort sorts (Some body.sort))
+
+-- a quantifier over variables on a term
 abbrev pub quantified : Kind → List Binder → Typed → Option Typed
-quantified k binders body =
-    option_map (λ s. record { term = term.Quant k (sorts_in binders) body.term; sort = s })
-    (quantifier_sort (sorts_in binders) (Some body.sort))
+quantified k binders = quantified_over k (sorts_in binders)
 
 -- the quantifier of a word
 abbrev pub kind_of : List ℕ → Option Kind
@@ -128,3 +131,40 @@ typed_step (Tree-F.Group place trees) scope = group_term trees scope
 -- the term that a tree stands for in a scope, and its sort
 unfoldable pub typed_of : Tree → Reading
 typed_of = para-Tree Reading typed_step
+
+-- trees beside their readings
+abbrev pub beside : List Tree → List (Tree × Reading)
+beside trees = map (λ t. (t, typed_of t)) trees
+
+-- the terms that trees stand for in a scope
+abbrev pub typed_all : List Tree → List Binder → Option (List Typed)
+typed_all trees scope = all_some (map (λ t. typed_of t scope) trees)
+
+-- whether an operator is one that a body may have
+abbrev pub is_read_op : Op → Bool
+is_read_op op.Not = true
+is_read_op op.And = true
+is_read_op op.Or = true
+is_read_op op.Eq = true
+is_read_op op.Add = true
+is_read_op op.Sub = true
+is_read_op op.Le = true
+is_read_op op.Lt = true
+is_read_op o = false
+
+-- the sort of an operator on arguments
+abbrev pub sort_on : Op → List Typed → Option Sort
+sort_on o args = op_sort no_datatypes o (map (λ (t : Typed). t.sort) args)
+
+-- whether an operator is `-`
+abbrev pub is_minus : Op → Bool
+is_minus op.Sub = true
+is_minus o = false
+
+-- whether a group of so many trees, of which the first says that operator, is a negation
+abbrev pub is_negation : Op → ℕ → Bool
+is_negation o trees = is_minus o && nat_eq trees 2
+
+-- a quantifier over these variables on the term that a tree stands for under them
+abbrev pub quantified_under : Kind → List Binder → Tree → Reading
+quantified_under k binders body scope = typed_of body (scope ++ binders) >>= quantified k binders

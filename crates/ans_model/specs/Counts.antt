@@ -1,5 +1,5 @@
 -- How many trees there are.
-use Rattle.std.specs.Prelude.{ℕ, ◌+◌, List, [], ◌∷◌, map}
+use Rattle.std.specs.Prelude.{ℕ, ◌+◌, ◌<◌, ◌^◌, List, [], ◌∷◌, map}
 use Rattle.chc_sexpr.specs.declared.tree.Tree.{Tree}
 use Rattle.chc_sexpr.specs.declared.tree.Tree.TheOpen.{Tree-F}
 use Rattle.chc_sexpr.specs.declared.tree.Tree.TheFolds.{fold-Tree}
@@ -25,3 +25,7 @@ count = fold-Tree ℕ count_step
 -- how many trees these are made of
 abbrev pub count_all : List Tree → ℕ
 count_all trees = together (map count trees)
+
+-- the numbers of so many variables, and of those that so many trees can bind, are below 2^32
+pub record HasRoom (vars trees : ℕ) : Type 0 where
+  pub fits : vars + trees < 2 ^ 32

@@ -1,5 +1,6 @@
 pub mod Bodies
 pub mod Counts
+pub mod Heads
 pub mod Models
 pub mod Readings
 pub mod Scopes

@@ -1,7 +1,12 @@
 //! Model answers: definitions of predicates, read and written.
 #![tactic(auto)]
 
+mod body;
+mod names;
 mod read;
+mod scope;
+mod shape;
+mod sorts;
 mod text;
 mod typed;
 
