@@ -1,9 +1,9 @@
 -- White space and comments may be left out in front of trees.
-use Rattle.std.proofs.Common.{◌≡◌, ℕ, suc, ◌+◌, Bool, true, false, not, ◌&&◌, ◌||◌, cond, eqb, List, [], ◌∷◌, ◌++◌, length, ap, sym, refl, subst, ◌∙◌, arith, append_assoc}
+use Rattle.std.proofs.Common.{◌≡◌, ℕ, ◌+◌, Bool, true, false, not, ◌&&◌, ◌||◌, eqb, List, [], ◌∷◌, ◌++◌, length, ap, sym, refl, subst, ◌∙◌, arith, append_assoc}
 use Rattle.std.specs.List.{list_all}
-use Rattle.std.proofs.lemmas.Bool.{and_parts, and_from, cond-false, false≢true, eqb-true, eqb-false, not-true, not_from_false}
+use Rattle.std.proofs.lemmas.Bool.{and_parts, cond-false, false≢true, eqb-true, not-true}
 use Rattle.chc_sexpr.specs.Tokens.{is_white, is_commented}
-use Rattle.chc_sexpr.specs.Spelling.{is_blank_in, is_gap, stops, EachSpelled, TreeSpelled}
+use Rattle.chc_sexpr.specs.Spelling.{is_blank_in, stops, EachSpelled, TreeSpelled}
 use Rattle.chc_sexpr.specs.declared.tree.Tree.{Tree}
 use Rattle.chc_sexpr.proofs.Heads.{IsTail, whole, closing, BeginsNone, white_begins_none, semicolon_begins_none, not_begun, not_empty}
 
@@ -34,16 +34,28 @@ step_there b before behind ends p (x ∷ xs) place bs (([]), text, after, e, gap
 step_there b before behind ends p (x ∷ xs) place bs ((c ∷ cs), text, after, e, gap, spelled, each) =
     let first : c ≡ b = cc in
     let rest : bs ≡ cs ++ text ++ after = cc in
-    let far : place + length (c ∷ cs) ≡ place + 1 + length cs = omega arith in
-    (cs, text, after, rest, sym (p.same false cs) ∙ ap (λ d. is_blank_in false before (d ∷ cs)) (sym first) ∙ gap,
-    subst (λ q. TreeSpelled x q text after) far spelled, subst (λ q. EachSpelled TreeSpelled ends xs (q + length text) after) far each)
+    let far : place + length (c ∷ cs) ≡ place + 1 + length cs = omega arith in (
+      cs,
+      text,
+      after,
+      rest,
+      sym (p.same false cs) ∙ ap (λ d. is_blank_in false before (d ∷ cs)) (sym first) ∙ gap,
+      subst (λ q. TreeSpelled x q text after) far spelled,
+      subst (λ q. EachSpelled TreeSpelled ends xs (q + length text) after) far each,
+    )
 
 step_back : (b : ℕ) (before behind ends : Bool) → Passes b before behind → (more : List Tree) (place : ℕ) (bs : List ℕ) → EachIn ends behind more (place + 1) bs → EachIn ends before more place (b ∷ bs)
 step_back b before behind ends p [] place bs h = p.same ends bs ∙ h
 step_back b before behind ends p (x ∷ xs) place bs (gap, text, after, e, is, spelled, each) =
-    let far : place + 1 + length gap ≡ place + length (b ∷ gap) = omega arith in
-    (b ∷ gap, text, after, ap (λ r. b ∷ r) e, p.same false gap ∙ is,
-    subst (λ q. TreeSpelled x q text after) far spelled, subst (λ q. EachSpelled TreeSpelled ends xs (q + length text) after) far each)
+    let far : place + 1 + length gap ≡ place + length (b ∷ gap) = omega arith in (
+      b ∷ gap,
+      text,
+      after,
+      ap (λ r. b ∷ r) e,
+      p.same false gap ∙ is,
+      subst (λ q. TreeSpelled x q text after) far spelled,
+      subst (λ q. EachSpelled TreeSpelled ends xs (q + length text) after) far each,
+    )
 
 -- white space, the sign of a comment, a comment's bytes, and its line feed
 white_blank : (w c : Bool) (x y : Bool) → w ≡ true → c ≡ false → ((w && x) || (c && y)) ≡ x
@@ -97,6 +109,7 @@ white_there ends tail is b bs w more place s = by_inner s.inner s.whole s.each
     at_end false (c ∷ after) (closing k) q = let d : 41 ≡ b = cc in false≢true (ap is_white d ∙ w)
     at_end false [] k q = elim k [ ]
     at_end true (c ∷ after) k q = elim k [ ]
+
     by_inner : (inner : List ℕ) → inner ++ tail ≡ b ∷ bs → EachSpelled TreeSpelled ends more place inner → Side ends tail (place + 1) bs more
     by_inner [] q h = absurd (at_end ends tail is q)
     by_inner (c ∷ cs) q h =
@@ -180,10 +193,12 @@ feed_back ends tail is bs stop more place s = by_inner s.inner s.whole s.each
     at_end false (c ∷ after) (closing k) q = ap (λ d. not (is_commented d)) (sym k) ∙ q
     at_end false [] k q = elim k [ ]
     at_end true (c ∷ after) k q = elim k [ ]
+
     nothing : (m : List Tree) → EachSpelled TreeSpelled ends m place [] → ends ≡ true → EachIn ends true m place []
     nothing [] h e = e
     nothing (x ∷ xs) (([]), text, after, q, gap, spelled, each) e = absurd (not_empty x (place + length {A = ℕ} []) text after q spelled)
     nothing (x ∷ xs) ((c ∷ cs), text, after, q, gap, spelled, each) e = absurd cc
+
     by_inner : (inner : List ℕ) → inner ++ tail ≡ bs → EachSpelled TreeSpelled ends more place inner → SideIn ends tail place bs more
     by_inner [] q h = record { inner = []; whole = q; each = nothing more h (at_end ends tail is (ap (stops is_commented) q ∙ stop)) }
     by_inner (c ∷ cs) q h =
@@ -205,6 +220,7 @@ comment_left ends tail is text bs all stop more place s = by_inner s.inner s.who
     at_end false (c ∷ after) (closing k) q = let d : c ≡ 59 = cc in omega arith
     at_end false [] k q = elim k [ ]
     at_end true (c ∷ after) k q = elim k [ ]
+
     by_inner : (inner : List ℕ) → inner ++ tail ≡ 59 ∷ (text ++ bs) → EachSpelled TreeSpelled ends more place inner → Side ends tail (place + 1 + length text) bs more
     by_inner [] q h = absurd (at_end ends tail is q)
     by_inner (c ∷ cs) q h =

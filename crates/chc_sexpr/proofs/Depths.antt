@@ -1,10 +1,10 @@
 -- How deep trees and drafts are.
-use Rattle.std.proofs.Common.{◌≡◌, ℕ, suc, ◌+◌, ◌≤◌, ◌<◌, ℤ, max, List, [], ◌∷◌, ◌++◌, length, map, ap, sym, refl, subst, ◌∙◌, arith}
+use Rattle.std.proofs.Common.{◌≡◌, ℕ, ◌+◌, ◌≤◌, ◌<◌, max, List, [], ◌∷◌, ◌++◌, length, ap, arith}
 use Rattle.chc_sexpr.specs.Trees.{depth, depth_step, depth_all, most_open}
 use Rattle.chc_sexpr.specs.Drafts.{Completes, AreShallow}
 use Rattle.chc_sexpr.specs.declared.draft.OpenGroup.{OpenGroup}
 use Rattle.chc_sexpr.specs.declared.tree.Tree.{Tree}
-use Rattle.chc_sexpr.specs.declared.tree.Tree.TheVariants.{Symbol, Word, Keyword, Numeral, Text, Other, Group}
+use Rattle.chc_sexpr.specs.declared.tree.Tree.TheVariants.{Group}
 use Rattle.chc_sexpr.proofs.Folds.{fold-Group}
 
 -- trees side by side are as deep as the deeper of two parts

@@ -1,6 +1,6 @@
 -- The first tree of a text that stands side by side with others, in a group or outside.
-use Rattle.std.proofs.Common.{◌≡◌, ◌⊎◌, ℕ, suc, ◌+◌, ℤ, Bool, true, false, not, ◌&&◌, ◌||◌, cond, eqb, List, [], ◌∷◌, ◌++◌, length, Result, Ok, Err, ap, sym, refl, subst, ◌∙◌, ⊎_elim, inl, inr, arith, append_assoc, append-nil}
-use Rattle.std.proofs.lemmas.Bool.{and_parts, or_cases, false≢true, eqb-true, false_from_ne_true, not_from_false}
+use Rattle.std.proofs.Common.{◌≡◌, ◌⊎◌, ℕ, ◌+◌, ℤ, Bool, true, false, ◌&&◌, ◌||◌, eqb, List, [], ◌∷◌, ◌++◌, length, Ok, ap, sym, refl, subst, ◌∙◌, ⊎_elim, inl, inr, arith, append_assoc, append-nil}
+use Rattle.std.proofs.lemmas.Bool.{and_parts, or_cases, false≢true, eqb-true, not_from_false}
 use Rattle.chc_sexpr.specs.Tokens.{is_white, is_symbol_byte}
 use Rattle.chc_sexpr.specs.Spelling.{is_blank_in, is_gap, stops, continues_binary, IsDecimal, IsHexadecimal, IsBinary, EachSpelled, LevelSpelled, TreeSpelled}
 use Rattle.chc_sexpr.specs.Scanning.{token_at}
@@ -8,7 +8,7 @@ use Rattle.chc_sexpr.specs.declared.token.Token.{Token}
 use Rattle.chc_sexpr.specs.declared.tree.Tree.{Tree}
 use Rattle.chc_sexpr.specs.declared.tree.Tree.TheOpen.{Tree-F}
 use Rattle.chc_sexpr.specs.declared.tree.Tree.TheVariants.{Symbol, Word, Keyword, Numeral, Text, Other, Group}
-use Rattle.chc_sexpr.proofs.Folds.{TreeCases, tree_ind}
+use Rattle.chc_sexpr.proofs.Folds.{tree_ind}
 use Rattle.chc_sexpr.proofs.Scans.{Reads, as_token, as_group, reads}
 use Rattle.chc_sexpr.proofs.Spelled.{spelled-Symbol, spelled-Word, spelled-Keyword, spelled-Numeral, spelled-Text, spelled-Other, spelled-Group, opened, shut}
 

@@ -1,7 +1,7 @@
 -- How what is completed moves on over a part of the text.
-use Rattle.std.proofs.Common.{◌≡◌, ℕ, suc, ◌+◌, ◌-◌, ◌≤◌, ◌<◌, Bool, true, false, eqb, List, [], ◌∷◌, ◌++◌, length, take, drop, Result, Ok, Err, ap, sym, refl, subst, ◌∙◌, arith, append_assoc, append-nil, length-append, length-drop}
+use Rattle.std.proofs.Common.{◌≡◌, ℕ, suc, ◌+◌, ◌≤◌, Bool, true, false, List, [], ◌∷◌, ◌++◌, length, take, drop, Ok, Err, ap, sym, refl, subst, ◌∙◌, arith, append_assoc, append-nil, length-append, length-drop}
 use Rattle.std.specs.List.{prefix_len}
-use Rattle.std.proofs.lemmas.Bool.{false≢true, false_from_ne_true, ne_eqb, eqb-true, eqb-false}
+use Rattle.std.proofs.lemmas.Bool.{false_from_ne_true, ne_eqb}
 use Rattle.std.proofs.lemmas.List.{take-append-drop, drop_at, length-take-le}
 use Rattle.std.proofs.lemmas.List.Sums.{prefix_len-le-length}
 use Rattle.std.proofs.lemmas.List.Folds.{length-prefix_len}
@@ -15,7 +15,7 @@ use Rattle.chc_sexpr.specs.declared.token.Token.{Token}
 use Rattle.chc_sexpr.specs.declared.tree.Tree.{Tree}
 use Rattle.chc_sexpr.specs.declared.tree.Tree.TheVariants.{Group}
 use Rattle.chc_sexpr.proofs.Blanks.{Side, white_there, white_back, comment_left, comment_put}
-use Rattle.chc_sexpr.proofs.Heads.{IsTail, whole, closing, longer, shorter, BeginsNone, white_begins_none, semicolon_begins_none, close_begins_none, not_begun, not_empty, IsSolid, solid_is_no_blank, Head, head}
+use Rattle.chc_sexpr.proofs.Heads.{IsTail, whole, closing, shorter, white_begins_none, semicolon_begins_none, close_begins_none, not_begun, not_empty, IsSolid, solid_is_no_blank, Head, head}
 use Rattle.chc_sexpr.proofs.Runs.{run_all, run_stops}
 use Rattle.chc_sexpr.proofs.Scans.{IsGroupText, Reads, as_token, as_group, reads}
 use Rattle.chc_sexpr.proofs.Spelled.{spelled-Group, shut}
@@ -248,18 +248,23 @@ open_there place bs gs trees all h =
     let end : place + length first.text ≡ place + 1 + length g.inner + 1 = omega (arith, ap length g.whole, length-append g.inner (41 ∷ [])) in
     let total : c.side.inner ++ c.tail ≡ first.text ++ (first.after ++ c.tail) = c.side.whole ∙ first.whole in
     let far : place + length c.side.inner ≡ place + 1 + length g.inner + 1 + length first.after =
-        omega (arith, ap length total, length-append c.side.inner c.tail, length-append first.text (first.after ++ c.tail), length-append first.after c.tail) in
+    omega (arith, ap length total, length-append c.side.inner c.tail, length-append first.text (first.after ++ c.tail), length-append first.after c.tail) in
     let tree_is : c.more ≡ Group place g.trees ∷ first.rest = first.is ∙ ap (λ x. x ∷ first.rest) g.is in
-    let trees_same : trees ++ c.more ≡ (trees ++ Group place g.trees ∷ []) ++ first.rest = ap (λ ts. trees ++ ts) tree_is ∙ sym (append_assoc trees (Group place g.trees ∷ []) first.rest) in
-    (g.trees, g.inner, first.after ++ c.tail, rest, g.each,
-    join gs (trees ++ Group place g.trees ∷ []) (place + 1 + length g.inner + 1) (first.after ++ c.tail) all (record {
-      ends = c.ends;
-      tail = c.tail;
-      is = c.is;
-      more = first.rest;
-      side = record { inner = first.after; whole = refl; each = subst (λ p. EachSpelled TreeSpelled c.ends first.rest p first.after) end first.each };
-      onward = onward_same gs (trees ++ c.more) ((trees ++ Group place g.trees ∷ []) ++ first.rest) (place + length c.side.inner) (place + 1 + length g.inner + 1 + length first.after) c.tail all trees_same far c.onward;
-    }))
+    let trees_same : trees ++ c.more ≡ (trees ++ Group place g.trees ∷ []) ++ first.rest = ap (λ ts. trees ++ ts) tree_is ∙ sym (append_assoc trees (Group place g.trees ∷ []) first.rest) in (
+      g.trees,
+      g.inner,
+      first.after ++ c.tail,
+      rest,
+      g.each,
+      join gs (trees ++ Group place g.trees ∷ []) (place + 1 + length g.inner + 1) (first.after ++ c.tail) all (record {
+        ends = c.ends;
+        tail = c.tail;
+        is = c.is;
+        more = first.rest;
+        side = record { inner = first.after; whole = refl; each = subst (λ p. EachSpelled TreeSpelled c.ends first.rest p first.after) end first.each };
+        onward = onward_same gs (trees ++ c.more) ((trees ++ Group place g.trees ∷ []) ++ first.rest) (place + length c.side.inner) (place + 1 + length g.inner + 1 + length first.after) c.tail all trees_same far c.onward;
+      }),
+    )
 
 pub open_back : (place : ℕ) (bs : List ℕ) (gs : List OpenGroup) (trees all : List Tree) → Completes (record { place = place; before = trees } ∷ gs) [] (place + 1) bs all → Completes gs trees place (40 ∷ bs) all
 open_back place bs gs trees all (more, inner, after, e, each, then) =
@@ -269,7 +274,7 @@ open_back place bs gs trees all (more, inner, after, e, each, then) =
     let size : length text ≡ 1 + length inner + 1 = omega (arith, length-append inner (41 ∷ [])) in
     let end : place + 1 + length inner + 1 ≡ place + length {A = ℕ} [] + length text = omega arith in
     let parts : (text ++ c.side.inner) ++ c.tail ≡ 40 ∷ bs =
-        append_assoc text c.side.inner c.tail ∙ ap (λ r. text ++ r) c.side.whole ∙ ap (λ r. 40 ∷ r) (append_assoc inner (41 ∷ []) after ∙ sym e) in
+    append_assoc text c.side.inner c.tail ∙ ap (λ r. text ++ r) c.side.whole ∙ ap (λ r. 40 ∷ r) (append_assoc inner (41 ∷ []) after ∙ sym e) in
     let far : place + 1 + length inner + 1 + length c.side.inner ≡ place + length (text ++ c.side.inner) = omega (arith, length-append text c.side.inner) in
     let spelled = shut (spelled-Group place more) place text c.side.inner (refl, inner, refl, each) in
     join gs trees place (40 ∷ bs) all (record {
@@ -292,6 +297,7 @@ none_at_close ends more place c bs e h = at_close more (subst (λ d. EachSpelled
   where
     solid : IsSolid 41
     solid = record { white = refl; comment = refl }
+
     at_close : (m : List Tree) → EachSpelled TreeSpelled ends m place (41 ∷ bs) → ⊥
     at_close [] k = solid_is_no_blank ends 41 bs solid k
     at_close (x ∷ xs) (([]), text, after, q, gap, spelled, each) = not_begun 41 close_begins_none x (place + length {A = ℕ} []) text after bs q spelled
@@ -316,10 +322,15 @@ close_there place bs g gs trees all (more, (c ∷ cs), after, e, each, then) = a
 
 pub close_back : (place : ℕ) (bs : List ℕ) (g : OpenGroup) (gs : List OpenGroup) (trees all : List Tree) → Completes gs (g.before ++ Group g.place trees ∷ []) (place + 1) bs all → Completes (g ∷ gs) trees place (41 ∷ bs) all
 close_back place bs g gs trees all h =
-    let near : place + 1 ≡ place + length {A = ℕ} [] + 1 = omega arith in
-    ([], [], bs, refl, refl,
-    subst (λ p. Completes gs (g.before ++ Group g.place (trees ++ []) ∷ []) p bs all) near
-    (subst (λ ts. Completes gs (g.before ++ Group g.place ts ∷ []) (place + 1) bs all) (sym (append-nil trees)) h))
+    let near : place + 1 ≡ place + length {A = ℕ} [] + 1 = omega arith in (
+      [],
+      [],
+      bs,
+      refl,
+      refl,
+      subst (λ p. Completes gs (g.before ++ Group g.place (trees ++ []) ∷ []) p bs all) near
+          (subst (λ ts. Completes gs (g.before ++ Group g.place ts ∷ []) (place + 1) bs all) (sym (append-nil trees)) h),
+    )
 
 -- a `)` without partner
 pub stray_none : (place : ℕ) (bs : List ℕ) (trees all : List Tree) → Completes [] trees place (41 ∷ bs) all → ⊥

@@ -1,26 +1,25 @@
 -- What is spelled is read: the token of a tree's text stands first in it, whatever may follow.
-use Rattle.std.proofs.Common.{◌≡◌, ◌⊎◌, ℕ, ◌+◌, ◌^◌, ◌≤◌, ◌<◌, ℤ, pos, Bool, true, false, not, ◌&&◌, cond, eqb, ltb, List, [], ◌∷◌, ◌++◌, length, map, take, drop, Option, Some, None, Result, Ok, Err, ap, sym, refl, subst, ◌∙◌, ⊎_elim, inl, inr, arith, append_assoc, append-nil, length-append}
+use Rattle.std.proofs.Common.{◌≡◌, ◌⊎◌, ℕ, ◌+◌, ◌^◌, ◌<◌, ℤ, pos, Bool, true, false, not, cond, eqb, ltb, List, [], ◌∷◌, ◌++◌, length, map, take, drop, Some, Ok, Err, ap, sym, refl, subst, ◌∙◌, ⊎_elim, inl, inr, arith, append_assoc, length-append}
 use Rattle.std.specs.List.{list_all, list_any, prefix_len, concat}
 use Rattle.std.specs.Char.{is_ascii_digit, is_ascii_hexdigit, is_ascii_alphanumeric}
 use Rattle.std.specs.Fmt.{decimal}
 use Rattle.std.specs.Str.{bytes_eq}
 use Rattle.std.specs.Str.Parse.{digits_value}
-use Rattle.std.proofs.lemmas.Bool.{and_parts, and_right, or_cases, or_left, not-true, cond-true, cond-false, false≢true, eqb-true, ne_eqb, lt-ltb, cases_Bool}
+use Rattle.std.proofs.lemmas.Bool.{and_parts, and_right, or_cases, or_left, not-true, cond-true, cond-false, false≢true, eqb-true, ne_eqb, lt-ltb}
 use Rattle.std.proofs.lemmas.List.{take_at, drop_at}
 use Rattle.std.proofs.lemmas.Slice.Eq.{bytes_eq-Decides}
 use Rattle.chc_sexpr.specs.Tokens.{is_symbol_sign, is_symbol_byte, is_simple_symbol, reserved_words, is_reserved, is_whole_number}
 use Rattle.chc_sexpr.specs.Spelling.{stops, is_quotable, is_keyword, is_run, IsDecimal, IsHexadecimal, IsBinary, is_binary_digit, continues_binary, in_string, string_of, EachSpelled, LevelSpelled, TreeSpelled}
-use Rattle.chc_sexpr.specs.Scanning.{fault_at, front, ended, word_at, symbol_at, keyword_of, quoted_of, quoted_from, with_byte, string_from, string_of_found, based_of, based_at, sharp_at, fraction_of, fraction, numeral_of, number_of, has_needless_zero, number_from, number_at, token_by, token_at}
+use Rattle.chc_sexpr.specs.Scanning.{fault_at, front, ended, word_at, quoted_of, quoted_from, with_byte, string_from, string_of_found, based_at, fraction_of, fraction, number_of, has_needless_zero, number_from, number_at, token_at}
 use Rattle.chc_sexpr.specs.declared.fault.Fault.TheVariants.{NumeralTooLarge}
 use Rattle.chc_sexpr.specs.declared.token.Token.{Token}
 use Rattle.chc_sexpr.specs.declared.tree.Tree.{Tree}
 use Rattle.chc_sexpr.specs.declared.tree.Tree.TheOpen.{Tree-F}
 use Rattle.chc_sexpr.specs.declared.tree.Tree.TheVariants.{Symbol, Word, Keyword, Numeral, Text, Other, Group}
 use Rattle.chc_sexpr.proofs.Decimals.{whole_decimal, value_decimal, whole_digits}
-use Rattle.chc_sexpr.proofs.Folds.{TreeCases, tree_ind}
+use Rattle.chc_sexpr.proofs.Folds.{tree_ind}
 use Rattle.chc_sexpr.proofs.Runs.{run_is, stops_fewer}
 use Rattle.chc_sexpr.proofs.Spelled.{spelled-Symbol, spelled-Word, spelled-Keyword, spelled-Numeral, spelled-Text, spelled-Other, spelled-Group, opened}
-use Rattle.chc_sexpr.proofs.Strings.{string_goes_on}
 
 -- the token of all bytes of a text
 abbrev pub token_of : (List ℕ → Tree) → List ℕ → Token

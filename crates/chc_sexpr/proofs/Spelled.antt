@@ -1,14 +1,12 @@
 -- What the spelling of a tree is, at each variant.
-use Rattle.std.proofs.Common.{◌≡◌, ℕ, ◌+◌, ℤ, Bool, true, false, List, [], ◌∷◌, ◌++◌, length, map, ap, sym, subst, refl, ◌∙◌}
+use Rattle.std.proofs.Common.{◌≡◌, ℕ, ◌+◌, ℤ, Bool, false, List, [], ◌∷◌, ◌++◌, length, map, ap, sym, subst, refl, ◌∙◌}
 use Rattle.std.specs.Prelude.{IsTrue}
-use Rattle.std.specs.List.{AllByRecursion}
-use Rattle.chc_sexpr.specs.Spelling.{is_blank_in, is_gap, EachSpelled, LevelSpelled, TreeSpelled}
+use Rattle.chc_sexpr.specs.Spelling.{is_gap, EachSpelled, LevelSpelled, TreeSpelled}
 use Rattle.chc_sexpr.specs.declared.tree.Tree.{Tree}
 use Rattle.chc_sexpr.specs.declared.tree.Tree.TheOpen.{Tree-F}
 use Rattle.chc_sexpr.specs.declared.tree.Tree.TheVariants.{Symbol, Word, Keyword, Numeral, Text, Other, Group, rolls-Symbol, rolls-Word, rolls-Keyword, rolls-Numeral, rolls-Text, rolls-Other, rolls-Group}
 use Rattle.chc_sexpr.specs.declared.tree.Tree.TheViews.{roll-Tree}
-use Rattle.chc_sexpr.specs.declared.tree.Tree.TheFolds.{map-Tree, rec-Tree, rec-roll-Tree}
-use Rattle.chc_sexpr.proofs.Folds.{TreeCases, tree_ind}
+use Rattle.chc_sexpr.specs.declared.tree.Tree.TheFolds.{map-Tree, rec-roll-Tree}
 
 abbrev pub Spelling : Type 1
 Spelling = ℕ → List ℕ → List ℕ → Type 0

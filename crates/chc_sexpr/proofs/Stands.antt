@@ -2,30 +2,26 @@
 use Rattle.std.proofs.Common.{◌≡◌, ◌⊎◌, ℕ, suc, ◌+◌, ◌^◌, ◌≤◌, ◌<◌, pos, Bool, true, false, not, ◌&&◌, ◌||◌, cond, eqb, ltb, List, [], ◌∷◌, ◌++◌, length, map, take, drop, get_or, Option, Some, None, Result, Ok, Err, ap, sym, refl, subst, ◌∙◌, ⊎_elim, inl, inr, arith, append_assoc, append-nil, length-append, length-drop}
 use Rattle.std.specs.List.{list_all, list_any, prefix_len, concat}
 use Rattle.std.specs.Char.{is_ascii_digit, is_ascii_hexdigit}
-use Rattle.std.specs.Fmt.{decimal}
 use Rattle.std.specs.Str.Parse.{digits_value}
-use Rattle.std.proofs.lemmas.Bool.{and_parts, and_from, and_cases, and_left, or_from, false_from_ne_true, not-true, not_from_false, cond-true, cond-false, false≢true, eqb-true, eqb-false, ne_eqb, ltb-true, ltb-false, cases_Bool}
+use Rattle.std.proofs.lemmas.Bool.{and_parts, and_from, and_cases, and_left, or_from, false_from_ne_true, not-true, not_from_false, cond-true, cond-false, false≢true, eqb-true, eqb-false, ne_eqb, ltb-true, ltb-false}
 use Rattle.std.proofs.lemmas.List.{take_at, drop_at, take-append-drop, length-take-le, drop-drop}
 use Rattle.std.proofs.lemmas.List.Folds.{length-prefix_len}
 use Rattle.std.proofs.lemmas.List.Sums.{prefix_len-le-length}
 use Rattle.chc_sexpr.specs.Trees.{depth, depth_step}
 use Rattle.chc_sexpr.specs.Tokens.{is_white, is_symbol_byte, is_simple_symbol, is_reserved, is_whole_number}
-use Rattle.chc_sexpr.specs.Spelling.{stops, starts, begins_nothing, begins_based, begins_fraction, IsNumber, RunsOn, after_numeral, after_decimal, after_hexadecimal, after_binary, IsTokenFault, nothing, lone_colon, lone_sharp, runs_on, backslash, open_quoted, open_string, needless_zero, too_large, is_quotable, is_keyword, is_run, IsDecimal, IsHexadecimal, IsBinary, is_binary_digit, continues_binary, in_string, string_of, EachSpelled, LevelSpelled, TreeSpelled}
-use Rattle.chc_sexpr.specs.Scanning.{fault_at, front, ended, word_at, symbol_at, keyword_of, keyword_at, quoted_of, quoted_from, quoted_at, with_byte, string_from, string_of_found, string_at, based_of, based_at, sharp_at, fraction_of, fraction, numeral_of, number_of, has_needless_zero, number_from, number_at, token_by, token_at}
+use Rattle.chc_sexpr.specs.Spelling.{stops, starts, begins_nothing, begins_based, begins_fraction, IsNumber, RunsOn, after_numeral, after_decimal, after_hexadecimal, after_binary, IsTokenFault, nothing, lone_colon, lone_sharp, runs_on, backslash, open_quoted, open_string, needless_zero, too_large, is_quotable, is_keyword, is_run, IsDecimal, IsHexadecimal, IsBinary, is_binary_digit, continues_binary, in_string, string_of, TreeSpelled}
+use Rattle.chc_sexpr.specs.Scanning.{fault_at, front, ended, symbol_at, keyword_at, quoted_of, quoted_at, with_byte, string_from, string_of_found, string_at, based_at, sharp_at, fraction_of, fraction, numeral_of, number_of, has_needless_zero, number_at, token_by, token_at}
 use Rattle.chc_sexpr.specs.Drafts.{BeginsToken}
 use Rattle.chc_sexpr.specs.declared.fault.Fault.{Fault}
 use Rattle.chc_sexpr.specs.declared.fault.Fault.TheVariants.{BadByte, OpenString, OpenQuoted, LeadingZero, NumeralTooLarge}
 use Rattle.chc_sexpr.specs.declared.fault.TextFault.{TextFault}
 use Rattle.chc_sexpr.specs.declared.token.Token.{Token}
-use Rattle.chc_sexpr.specs.declared.tree.Tree.{Tree}
-use Rattle.chc_sexpr.specs.declared.tree.Tree.TheOpen.{Tree-F}
-use Rattle.chc_sexpr.specs.declared.tree.Tree.TheVariants.{Symbol, Word, Keyword, Numeral, Text, Other, Group}
+use Rattle.chc_sexpr.specs.declared.tree.Tree.TheVariants.{Symbol, Word, Keyword, Numeral, Other}
 use Rattle.chc_sexpr.proofs.Decimals.{whole_from, decimal_whole}
 use Rattle.chc_sexpr.proofs.Folds.{fold-Symbol, fold-Word, fold-Keyword, fold-Numeral, fold-Text, fold-Other}
 use Rattle.chc_sexpr.proofs.Heads.{white_begins_none, semicolon_begins_none, close_begins_none}
 use Rattle.chc_sexpr.proofs.Runs.{run_all, run_stops, digits_all}
 use Rattle.chc_sexpr.proofs.Spelled.{spelled-Symbol, spelled-Word, spelled-Keyword, spelled-Numeral, spelled-Text, spelled-Other, shut}
-use Rattle.chc_sexpr.proofs.Strings.{string_goes_on}
 
 -- the token is what a front of the text spells
 pub record Stands (place : ℕ) (bs : List ℕ) (t : Token) : Type 0 where
@@ -374,7 +370,7 @@ decimal_stands place n m bs some within whole f =
     let ds = take n bs in
     let token = ds ++ 46 ∷ f.digits in
     let parts : bs ≡ token ++ drop m rest =
-        sym (take-append-drop n bs) ∙ ap (λ r. ds ++ r) (sym (take-append-drop m rest)) ∙ ap (λ r. ds ++ (r ++ drop m rest)) f.front ∙ sym (append_assoc ds (46 ∷ f.digits) (drop m rest)) in
+    sym (take-append-drop n bs) ∙ ap (λ r. ds ++ r) (sym (take-append-drop m rest)) ∙ ap (λ r. ds ++ (r ++ drop m rest)) f.front ∙ sym (append_assoc ds (46 ∷ f.digits) (drop m rest)) in
     let size : length token ≡ n + m = length-append ds (46 ∷ f.digits) ∙ (λ i. length-take-le n bs within i + ap length (sym f.front) i) ∙ ap (λ k. n + k) (length-take-le m rest f.within) in
     let front_is : take (n + m) bs ≡ token = ap (take (n + m)) parts ∙ take_at token (drop m rest) (n + m) size in
     let fits : n + m ≤ length bs = omega (arith, within, f.within, length-drop n bs) in
@@ -423,12 +419,12 @@ nothing_begins b t s q r k h =
     let c41 = ne_eqb b 41 t.closing in
     let w = t.white in
     let n = or_from (eqb b 124) (eqb b 34 || (eqb b 58 || (eqb b 35 || (eqb b 59 || (eqb b 40 || (eqb b 41 || false)))))) q
-        (or_from (eqb b 34) (eqb b 58 || (eqb b 35 || (eqb b 59 || (eqb b 40 || (eqb b 41 || false))))) r
-        (or_from (eqb b 58) (eqb b 35 || (eqb b 59 || (eqb b 40 || (eqb b 41 || false)))) k
-        (or_from (eqb b 35) (eqb b 59 || (eqb b 40 || (eqb b 41 || false))) h
-        (or_from (eqb b 59) (eqb b 40 || (eqb b 41 || false)) c59
-        (or_from (eqb b 40) (eqb b 41 || false) c40
-        (or_from (eqb b 41) false c41 refl)))))) in
+    (or_from (eqb b 34) (eqb b 58 || (eqb b 35 || (eqb b 59 || (eqb b 40 || (eqb b 41 || false))))) r
+    (or_from (eqb b 58) (eqb b 35 || (eqb b 59 || (eqb b 40 || (eqb b 41 || false)))) k
+    (or_from (eqb b 35) (eqb b 59 || (eqb b 40 || (eqb b 41 || false))) h
+    (or_from (eqb b 59) (eqb b 40 || (eqb b 41 || false)) c59
+    (or_from (eqb b 40) (eqb b 41 || false) c40
+    (or_from (eqb b 41) false c41 refl)))))) in
     and_from (not (is_symbol_byte b) && not (is_white b)) (not (list_any (λ c. eqb b c) (124 ∷ 34 ∷ 58 ∷ 35 ∷ 59 ∷ 40 ∷ 41 ∷ [])))
     (and_from (not (is_symbol_byte b)) (not (is_white b)) (not_from_false (is_symbol_byte b) s) (not_from_false (is_white b) w))
     (not_from_false (list_any (λ c. eqb b c) (124 ∷ 34 ∷ 58 ∷ 35 ∷ 59 ∷ 40 ∷ 41 ∷ [])) n)

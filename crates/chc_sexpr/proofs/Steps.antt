@@ -1,11 +1,11 @@
 -- The steps of the reader on its draft.
-use Rattle.std.proofs.Common.{◌≡◌, ℕ, suc, ◌+◌, ◌≤◌, ◌<◌, Bool, true, false, eqb, List, [], ◌∷◌, ◌++◌, length, map, get_or, reverse, take, drop, Result, Ok, Err, ap, sym, refl, subst, ◌∙◌, arith, append-nil}
+use Rattle.std.proofs.Common.{◌≡◌, ℕ, suc, ◌+◌, ◌≤◌, ◌<◌, true, List, [], ◌∷◌, ◌++◌, length, map, get_or, reverse, take, drop, Result, Ok, Err, ap, sym, refl, subst, ◌∙◌, arith, append-nil}
 use Rattle.std.specs.List.{prefix_len}
 use Rattle.std.proofs.lemmas.Bool.{ne_eqb}
 use Rattle.std.proofs.lemmas.List.Folds.{length-prefix_len}
-use Rattle.std.proofs.lemmas.List.{reverse-append, length-reverse, length-drop, length-map, length-take-le, take-append-drop, drop-drop, drop_all, drop_more}
+use Rattle.std.proofs.lemmas.List.{reverse-append, length-reverse, length-drop, length-map, length-take-le, take-append-drop, drop-drop, drop_all}
 use Rattle.chc_sexpr.specs.Tokens.{is_white, is_commented}
-use Rattle.chc_sexpr.specs.Trees.{depth_all, most_open}
+use Rattle.chc_sexpr.specs.Trees.{most_open}
 use Rattle.chc_sexpr.specs.Spelling.{TreeSpelled, EachSpelled, Spells, SpellsNone, IsTreeReading, IsFirstFault, FirstFault, white, comment, token, opening, closing, bad_token, too_deep, stray, unclosed}
 use Rattle.chc_sexpr.specs.Scanning.{fault_at, token_at, Gives}
 use Rattle.chc_sexpr.specs.Drafts.{open_places, Closes, Completes, Ends, AreShallow, IsShallow, StepsTo, Fails, BeginsToken, StepsOn, Finishes}
@@ -132,8 +132,8 @@ open_fails d place bs full =
       first = too_deep (places gs) place bs (omega (arith, length-reverse d.groups, length-map gs (λ (x : OpenGroup). x.place)));
       nameless = refl;
       none = λ all shallow h.
-    let deep = depth_open (record { place = place; before = d.trees } ∷ gs) [] (place + 1) bs all (open_there place bs gs d.trees all h.is) in
-    omega (arith, deep, length-reverse d.groups);
+          let deep = depth_open (record { place = place; before = d.trees } ∷ gs) [] (place + 1) bs all (open_there place bs gs d.trees all h.is) in
+          omega (arith, deep, length-reverse d.groups);
     }
 
 pub open_refused : (d : Draft) (place : ℕ) (rest : List ℕ) → rest ≡ 40 ∷ drop 1 rest → most_open ≤ length d.groups → Fails d place rest (fault_at place TooDeep)
@@ -213,17 +213,19 @@ ends bytes at d h is (Ok trees) f =
     let no_groups : reverse d.groups ≡ [] = ap reverse f.0 in
     let end : Ends d at (drop at bytes) d.trees = record { is = subst (λ r. Completes (reverse d.groups) d.trees at r d.trees) (sym none) (subst (λ x. Completes x d.trees at [] d.trees) (sym no_groups) (end_completes d.trees at)) } in
     let shallow : AreShallow [] d.trees = subst (λ x. AreShallow x d.trees) no_groups is.shallow.is in
-    let spells : Spells bytes d.trees = record { spelled = is.back d.trees end; shallow = shallow } in
-    (subst (Spells bytes) (sym f.1) spells,
-    λ others s. let e = is.there others s.spelled in
-    f.1 ∙ sym (end_is d.trees at others (subst (λ x. Completes x d.trees at [] others) no_groups (subst (λ r. Completes (reverse d.groups) d.trees at r others) none e.is))))
+    let spells : Spells bytes d.trees = record { spelled = is.back d.trees end; shallow = shallow } in (
+      subst (Spells bytes) (sym f.1) spells,
+      λ others s. let e = is.there others s.spelled in
+          f.1 ∙ sym (end_is d.trees at others (subst (λ x. Completes x d.trees at [] others) no_groups (subst (λ r. Completes (reverse d.groups) d.trees at r others) none e.is))),
+    )
 ends bytes at d h is (Err (text_err.At fault)) f =
     let none : drop at bytes ≡ [] = drop_all at bytes h in
     let same : reverse d.groups ≡ f.0 ∷ reverse f.1 = ap reverse f.2 ∙ innermost f.1 f.0 in
     let end : FirstFault (open_places d) at (drop at bytes) OpenParen f.0.place =
-        subst (λ r. FirstFault (open_places d) at r OpenParen f.0.place) (sym none) (subst (λ x. FirstFault (places x) at [] OpenParen f.0.place) (sym same) (unclosed f.0.place (places (reverse f.1)) at)) in
-    (λ trees s.
-    let e = is.there trees s.spelled in
-    end_open f.0 (reverse f.1) d.trees at trees (subst (λ x. Completes x d.trees at [] trees) same (subst (λ r. Completes (reverse d.groups) d.trees at r trees) none e.is)),
-    subst (IsFirstFault bytes) (sym f.3) (record { first = is.faults OpenParen f.0.place end; nameless = refl }))
+    subst (λ r. FirstFault (open_places d) at r OpenParen f.0.place) (sym none) (subst (λ x. FirstFault (places x) at [] OpenParen f.0.place) (sym same) (unclosed f.0.place (places (reverse f.1)) at)) in (
+      λ trees s.
+          let e = is.there trees s.spelled in
+          end_open f.0 (reverse f.1) d.trees at trees (subst (λ x. Completes x d.trees at [] trees) same (subst (λ r. Completes (reverse d.groups) d.trees at r trees) none e.is)),
+      subst (IsFirstFault bytes) (sym f.3) (record { first = is.faults OpenParen f.0.place end; nameless = refl }),
+    )
 ends bytes at d h is (Err text_err.NoMemory) f = tt

@@ -1,5 +1,5 @@
 -- What a reader of trees has read so far, and what the rest of the text can make of it.
-use Rattle.std.specs.Prelude.{ℕ, ◌≡◌, ◌≢◌, ◌<◌, ◌≤◌, ◌+◌, Bool, true, false, List, [], ◌∷◌, ◌++◌, length, drop, map, reverse, Result, Ok, Err, ⊤}
+use Rattle.std.specs.Prelude.{ℕ, ◌≡◌, ◌≢◌, ◌<◌, ◌≤◌, ◌+◌, true, false, List, [], ◌∷◌, ◌++◌, length, drop, map, reverse, Result, Ok, Err, ⊤}
 use Rattle.chc_sexpr.specs.Tokens.{is_white}
 use Rattle.chc_sexpr.specs.Spelling.{EachSpelled, TreeSpelled, FirstFault}
 use Rattle.chc_sexpr.specs.Scanning.{fault_at}
@@ -28,7 +28,7 @@ Completes (g ∷ gs) trees place rest all =
     (more : List Tree) × (inner after : List ℕ) × (rest ≡ inner ++ 41 ∷ after) × EachSpelled TreeSpelled false more place inner
     × Completes gs (g.before ++ Group g.place (trees ++ more) ∷ []) (place + length inner + 1) after all
 
--- the same of a draft
+-- the same of a draft: what the rest of the text makes of it
 pub record Ends (d : Draft) (place : ℕ) (rest : List ℕ) (all : List Tree) : Type 0 where
   pub is : Completes (reverse d.groups) d.trees place rest all
 
@@ -37,6 +37,7 @@ abbrev pub AreShallow : List OpenGroup → List Tree → Type 0
 AreShallow [] trees = depth_all trees ≤ most_open
 AreShallow (g ∷ gs) trees = (depth_all trees + length (g ∷ gs) ≤ most_open) × AreShallow gs g.before
 
+-- the same of a draft
 pub record IsShallow (d : Draft) : Type 0 where
   pub is : AreShallow (reverse d.groups) d.trees
 

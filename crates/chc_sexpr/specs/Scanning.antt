@@ -42,6 +42,7 @@ ended test place bs t = cond (stops test (drop t.length bs)) (Ok t) (Err (fault_
 abbrev pub word_at : ℕ → List ℕ → Tree
 word_at place word = cond (is_reserved word) (tree.Word place word) (tree.Symbol place word)
 
+-- the symbol or reserved word at the front
 abbrev pub symbol_at : ℕ → List ℕ → Result Token TextFault
 symbol_at place bs = Ok (front (word_at place) (prefix_len is_symbol_byte bs) bs)
 
@@ -49,6 +50,7 @@ symbol_at place bs = Ok (front (word_at place) (prefix_len is_symbol_byte bs) bs
 abbrev pub keyword_of : ℕ → ℕ → List ℕ → Result Token TextFault
 keyword_of n place bs = cond (n == 0) (Err (fault_at place BadByte)) (Ok (front (tree.Keyword place) (1 + n) bs))
 
+-- the keyword at the front
 abbrev pub keyword_at : ℕ → List ℕ → Result Token TextFault
 keyword_at place bs = keyword_of (prefix_len is_symbol_byte (drop 1 bs)) place bs
 
@@ -58,10 +60,11 @@ quoted_of n place name [] = Err (fault_at place OpenQuoted)
 quoted_of n place name (b ∷ bs) =
     cond (b == 124) (Ok (record { tree = tree.Symbol place name; length = n + 2 })) (Err (fault_at (place + (1 + n)) BadByte))
 
--- what n bytes behind a bar begin
+-- a quoted symbol whose name would be the n bytes behind its bar
 abbrev pub quoted_from : ℕ → ℕ → List ℕ → Result Token TextFault
 quoted_from n place bs = quoted_of n place (take n bs) (drop n bs)
 
+-- the quoted symbol at the front
 abbrev pub quoted_at : ℕ → List ℕ → Result Token TextFault
 quoted_at place bs = quoted_from (prefix_len is_quotable (drop 1 bs)) place (drop 1 bs)
 
@@ -83,10 +86,12 @@ string_from (b ∷ []) = cond (b == 34) (Some ([], 1)) None
 string_from (b ∷ c ∷ bs) =
     cond (b == 34) (cond (c == 34) (with_byte 34 2 (string_from bs)) (Some ([], 1))) (with_byte b 1 (string_from (c ∷ bs)))
 
+-- the string whose bytes are found, or none
 abbrev pub string_of_found : ℕ → Option (List ℕ × ℕ) → Result Token TextFault
 string_of_found place None = Err (fault_at place OpenString)
 string_of_found place (Some found) = Ok (record { tree = tree.Text place found.0; length = 1 + found.1 })
 
+-- the string at the front
 abbrev pub string_at : ℕ → List ℕ → Result Token TextFault
 string_at place bs = string_of_found place (string_from (drop 1 bs))
 
@@ -94,6 +99,7 @@ string_at place bs = string_of_found place (string_from (drop 1 bs))
 abbrev pub based_of : (ℕ → Bool) → ℕ → ℕ → List ℕ → Result Token TextFault
 based_of tail n place bs = cond (n == 0) (Err (fault_at place BadByte)) (ended tail place bs (front (tree.Other place) (2 + n) bs))
 
+-- a token of a sharp, a letter and digits of its base, and what may not follow it
 abbrev pub based_at : (ℕ → Bool) → (ℕ → Bool) → ℕ → List ℕ → Result Token TextFault
 based_at digit tail place bs = based_of tail (prefix_len digit (drop 2 bs)) place bs
 
@@ -105,7 +111,7 @@ sharp_at place (b ∷ c ∷ bs) =
     cond (c == 120) (based_at is_ascii_hexdigit is_symbol_byte place (b ∷ c ∷ bs))
     (cond (c == 98) (based_at is_binary_digit continues_binary place (b ∷ c ∷ bs)) (Err (fault_at place BadByte)))
 
--- a point and digits, or 0 where there are none
+-- how many bytes a point and n digits take, or 0 where there are no digits
 abbrev pub fraction_of : ℕ → ℕ
 fraction_of n = cond (n == 0) 0 (1 + n)
 
@@ -134,6 +140,7 @@ has_needless_zero n (b ∷ bs) = nat_lt 1 n && b == 48
 abbrev pub number_from : ℕ → ℕ → List ℕ → Result Token TextFault
 number_from n place bs = cond (has_needless_zero n bs) (Err (fault_at place LeadingZero)) (number_of (fraction (drop n bs)) n place bs)
 
+-- the numeral or decimal at the front
 abbrev pub number_at : ℕ → List ℕ → Result Token TextFault
 number_at place bs = number_from (prefix_len is_ascii_digit bs) place bs
 

@@ -17,6 +17,15 @@ pub struct OpenGroup {
     pub before: Trees,
 }
 
+/// The same trees, with no room to spare.
+fn without_room(trees: Trees) -> Trees
+    ensures { result ≡ trees }
+{
+    let mut items = trees.into_vec();
+    items.shrink_to_fit();
+    List::from_vec(items)
+}
+
 /// The groups that are open, outermost first, and the trees of the innermost so far.
 #[derive(Drop)]
 pub struct Draft {
@@ -53,7 +62,7 @@ impl Draft {
     {
         if let Some(OpenGroup { place, before }) = self.groups.pop() {
             let inner = mem::replace(&mut self.trees, before);
-            self.trees.push(Tree::Group(place, inner))?;
+            self.trees.push(Tree::Group(place, without_room(inner)))?;
         }
         Ok(())
     }

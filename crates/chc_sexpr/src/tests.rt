@@ -94,11 +94,7 @@ fn each_kind_of_token_is_read(rt: HostRuntime) {
     ];
     for (text, kind, bytes) in tokens {
         match read_trees(rt.alloc(), text) {
-            Ok(trees) => assert!(rt;
-                is_token(&trees, kind, bytes),
-                "at {}",
-                text.len()
-            ),
+            Ok(trees) => assert!(rt; is_token(&trees, kind, bytes), "at {}", text.len()),
             Err(_) => assert!(rt; false, "at {}", text.len()),
         }
     }
@@ -119,11 +115,7 @@ fn trees_stand_side_by_side(rt: HostRuntime) {
     ];
     for (text, kinds) in texts {
         match read_trees(rt.alloc(), text) {
-            Ok(trees) => assert!(rt;
-                are_kinds(&trees, kinds),
-                "at {}",
-                text.len()
-            ),
+            Ok(trees) => assert!(rt; are_kinds(&trees, kinds), "at {}", text.len()),
             Err(_) => assert!(rt; false, "at {}", text.len()),
         }
     }
@@ -218,10 +210,7 @@ fn a_thousand_groups_may_stand_within_one_another(rt: HostRuntime) {
         },
         Err(_) => assert!(rt; false),
     }
-    for (deep, fault, place) in [
-        (1001, Fault::TooDeep, 1000),
-        (1000, Fault::OpenParen, 999),
-    ] {
+    for (deep, fault, place) in [(1001, Fault::TooDeep, 1000), (1000, Fault::OpenParen, 999)] {
         match nested(rt.alloc(), deep, 0) {
             Ok(text) => assert!(rt;
                 has_fault(rt.alloc(), text.bytes(), fault, place),

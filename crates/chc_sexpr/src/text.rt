@@ -17,12 +17,7 @@ use std::alloc::Global;
 const MOST_OPEN: usize = 1000;
 
 /// Reads the `(` at the front.
-fn read_open(
-    alloc: Global,
-    draft: &mut Draft,
-    place: u64,
-    rest: &[u8],
-) -> Result<usize, TextErr>
+fn read_open(alloc: Global, draft: &mut Draft, place: u64, rest: &[u8]) -> Result<usize, TextErr>
     requires some { 0 < length rest.now }
     requires byte { slice_index rest.now 0 ≡ 40 }
     ensures { StepsOn draft.old draft.new place rest.now result }
@@ -35,12 +30,7 @@ fn read_open(
 }
 
 /// Reads the `)` at the front.
-fn read_close(
-    alloc: Global,
-    draft: &mut Draft,
-    place: u64,
-    rest: &[u8],
-) -> Result<usize, TextErr>
+fn read_close(alloc: Global, draft: &mut Draft, place: u64, rest: &[u8]) -> Result<usize, TextErr>
     requires some { 0 < length rest.now }
     requires byte { slice_index rest.now 0 ≡ 41 }
     ensures { StepsOn draft.old draft.new place rest.now result }
@@ -53,12 +43,7 @@ fn read_close(
 }
 
 /// Reads the token at the front.
-fn read_tree(
-    alloc: Global,
-    draft: &mut Draft,
-    place: u64,
-    rest: &[u8],
-) -> Result<usize, TextErr>
+fn read_tree(alloc: Global, draft: &mut Draft, place: u64, rest: &[u8]) -> Result<usize, TextErr>
     requires some { 0 < length rest.now }
     requires start { BeginsToken (slice_index rest.now 0) }
     requires fits { place + length rest.now < 2 ^ 64 }
@@ -86,12 +71,7 @@ fn comment_length(rest: &[u8]) -> usize
 
 /// Reads what stands at the front: a byte of white space, a comment, a parenthesis or a token. Gives how many bytes it
 /// takes.
-fn read_next(
-    alloc: Global,
-    draft: &mut Draft,
-    place: u64,
-    rest: &[u8],
-) -> Result<usize, TextErr>
+fn read_next(alloc: Global, draft: &mut Draft, place: u64, rest: &[u8]) -> Result<usize, TextErr>
     requires some { 0 < length rest.now }
     requires fits { place + length rest.now < 2 ^ 64 }
     ensures { StepsOn draft.old draft.new place rest.now result }

@@ -99,13 +99,7 @@ fn goes_on(kind: Kind, bytes: &[u8], at: usize) -> bool
 }
 
 /// The token, if no byte of the kind follows it.
-fn ended(
-    alloc: Global,
-    tail: Kind,
-    place: u64,
-    rest: &[u8],
-    token: Token,
-) -> Result<Token, TextErr>
+fn ended(alloc: Global, tail: Kind, place: u64, rest: &[u8], token: Token) -> Result<Token, TextErr>
     requires fits { place + token.length < 2 ^ 64 }
     ensures { Gives result (ended (is_of tail) place rest.now token) }
 {

@@ -1,4 +1,4 @@
-use Rattle.std.proofs.Common.{◌≡◌, ℕ, List, get_or, sym, subst, refl, drop, ◌∙◌}
+use Rattle.std.proofs.Common.{get_or, sym, subst, refl, drop, ◌∙◌}
 use Rattle.chc_sexpr.specs.Drafts.{StepsTo}
 use Rattle.chc_sexpr.proofs.Steps.{white_step, comment_step_by, first_byte}
 use Rattle.chc_sexpr.proofs.text.read_next.Goals as goal
