@@ -1,6 +1,7 @@
 pub mod Lines
 pub mod Replays
 pub mod SliceRuns
+pub mod ScriptSorts
 pub mod Backs
 pub mod LiftLaws
 pub mod RunLaws

@@ -8,12 +8,14 @@ use Rattle.chc_sexpr.specs.declared.fault.TextErr.{TextErr}
 use Rattle.chc_sexpr.specs.declared.fault.TextErr.TheVariants as text_err
 use Rattle.chc_sexpr.specs.declared.fault.Fault.TheVariants as fault
 use Rattle.chc_state.specs.States.{StateView}
+use Rattle.chc_state.specs.Sorts.{positions}
 use Rattle.chc_state.specs.Steps.{Goes}
 use Rattle.chc_script.specs.Scripts.{ScriptView, ReadsFirst}
 use Rattle.chc_script.specs.Assertions.{KeepsAssertions}
 use Rattle.chc_print.specs.Script.{IsScriptText}
 use Rattle.chc_trace.specs.declared.trace.Trace.{Trace}
 use Rattle.chc_trace.specs.Traces.{SaysTrace, trace_lines}
+use Rattle.chc_jobs.specs.Replaying.{AreWritable}
 use Rattle.chc_jobs.specs.Slicing.{IsSliced}
 
 -- the bytes read as the script X, and as no other
@@ -21,10 +23,11 @@ pub record ReadsAs (script : List ℕ) (X : ScriptView) : Type 0 where
   pub reads : ReadsFirst script X
   pub only : (Y : ScriptView) → ReadsFirst script Y → X ≡ Y
 
--- the bytes read as the script X; it has no datatypes, and names that can be told apart and written
+-- the bytes read as the script X; it has no datatypes, positions of sorts that an answer can have, and names that can be told apart and written
 pub record IsScript (script : List ℕ) (X : ScriptView) : Type 0 where
   pub read : ReadsAs script X
   pub plain : X.state.sig ≡ no_datatypes
+  pub writable : AreWritable (positions X.state.preds)
   pub named : length X.names ≡ length X.state.preds
   pub names : AreNames X.names
   pub assertions : KeepsAssertions X

@@ -9,7 +9,7 @@ use Rattle.chc_state.specs.Sorts.{positions, are_sorted}
 use Rattle.chc_state.specs.Steps.{IsLegal, Goes, after, removed_by}
 use Rattle.chc_state.specs.Definitions.{Defines}
 use Rattle.chc_state.specs.Back.{LeadsBack}
-use Rattle.ans_model.specs.Models.{IsAnswer}
+use Rattle.ans_model.specs.Models.{IsAnswer, is_answer_sort}
 use Rattle.chc_jobs.specs.declared.lift.replay.ReplayErr.{ReplayErr}
 use Rattle.chc_jobs.specs.declared.lift.replay.ReplayErr.TheVariants as replay_err
 
@@ -30,6 +30,10 @@ IsReplayRefusal s steps replay_err.NoMemory = Unit {0}
 abbrev pub is_below : ℕ → Step → Bool
 is_below n x = list_all (λ p. nat_lt p n) (removed_by x)
 
+-- the sorts of all positions are such as an answer can have
+abbrev pub AreWritable : List (List Sort) → Type 0
+AreWritable sorts = IsTrue (list_all (list_all is_answer_sort) sorts)
+
 -- back over a run of legal steps from a state without datatypes whose clauses are well sorted
 pub record RunLeadsBack (sorts : List (List Sort)) (steps : List Step) (d e : Defs) : Type 0 where
   pub leads :
@@ -37,7 +41,7 @@ pub record RunLeadsBack (sorts : List (List Sort)) (steps : List Step) (d e : De
       → Goes s steps z → Defines d z → LeadsBack s d e z
   pub answer :
       (s z : StateView) → s.sig.datatypes ≡ [] → IsTrue (are_sorted s.sig s.preds s.clauses) → sorts ≡ positions s.preds
-      → Goes s steps z → Defines d z → IsAnswer d → IsAnswer e
+      → AreWritable sorts → Goes s steps z → Defines d z → IsAnswer d → IsAnswer e
 
 -- the step is legal, and z is the state after it
 pub record IsTaken (s : StateView) (x : Step) (z : StateView) : Type 0 where

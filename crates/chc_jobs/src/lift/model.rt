@@ -4,10 +4,12 @@ ghost use Rattle.std.specs.Prelude.{◌≡◌, ◌<◌, ◌^◌, length, IfOk, I
 ghost use Rattle.chc_sorts.specs.Signature.{no_datatypes};
 ghost use Rattle.chc_sexpr.specs.Names.{AreNames};
 ghost use Rattle.chc_state.specs.Definitions.{Defines};
+ghost use Rattle.chc_state.specs.Sorts.{positions};
 ghost use Rattle.chc_state.specs.Steps.{Goes};
 ghost use Rattle.chc_script.specs.Assertions.{KeepsAssertions};
 ghost use Rattle.ans_model.specs.Models.{IsAnswer};
 ghost use Rattle.chc_jobs.specs.Jobs.{IsScript, Belongs, IsOnlyText};
+ghost use Rattle.chc_jobs.specs.Replaying.{AreWritable};
 ghost use Rattle.chc_jobs.specs.Lifting.{SaysOnly, IsModel, IsOpened, IsCarried, IsFinished, IsModelPrinted, LiftsModel};
 ghost use Rattle.chc_jobs.specs.LiftFaults.{IsScriptErr, IsTraceErr, IsAnswerErr, IsStepsErr, IsTraceRefusal, IsOwnTraceErr, IsLiftRefusal};
 
@@ -181,6 +183,7 @@ fn carry(alloc: Global, script: &Script, followed: &Followed, answer: &[u8]) -> 
     requires plain { script.now.state.sig ≡ no_datatypes }
     requires named { length script.now.names ≡ length script.now.state.preds }
     requires names { AreNames script.now.names }
+    requires writable { AreWritable (positions script.now.state.preds) }
     requires assertions { KeepsAssertions script.now }
     requires goes { Goes script.now.state followed.now.steps followed.now.state }
     ensures ok { IfOk result (IsCarried answer.now script.now followed.now.steps followed.now.state) }
@@ -221,6 +224,7 @@ fn carry_and_print(
     requires plain { script.now.state.sig ≡ no_datatypes }
     requires named { length script.now.names ≡ length script.now.state.preds }
     requires names { AreNames script.now.names }
+    requires writable { AreWritable (positions script.now.state.preds) }
     requires assertions { KeepsAssertions script.now }
     requires goes { Goes script.now.state followed.now.steps followed.now.state }
     ensures ok { IfOk result (λ l. IsFinished answer.now script.now followed.now.steps followed.now.state l.text l.count) }

@@ -17,4 +17,4 @@ returns-clause-ok c =
     let way = rw (c.preds.ensures.value, c.as_slice.ensures) at c.in_ok-made.ensures.way in
     let leads = rw (c.preds.ensures.value, c.as_slice.ensures) at c.in_ok-made.ensures.leads in
     carried c.args.answer.now c.args.script.now c.args.followed.now.steps c.args.followed.now.state c.in_ok-defs.defs c.in_ok-made.made
-    (rw c.requires.plain refl) c.clauses-clauses.ensures.sorted c.requires.assertions c.requires.goes c.in_ok-defs.ensures.ok way leads
+    (rw c.requires.plain refl) c.clauses-clauses.ensures.sorted c.requires.writable c.requires.assertions c.requires.goes c.in_ok-defs.ensures.ok way leads
