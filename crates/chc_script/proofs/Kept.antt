@@ -1,5 +1,5 @@
 -- An assertion and the clause that was made with it are true together.
-use Rattle.std.proofs.Common.{◌≡◌, ◌⊎◌, inl, inr, ℕ, zero, suc, Bool, true, false, not, cond, nat_eq, List, [], ◌∷◌, ◌++◌, length, map, Option, Some, None, slice_get, option_and_then, arith, refl, ap, sym, subst, ◌∙◌}
+use Rattle.std.proofs.Common.{◌≡◌, ◌⊎◌, inl, inr, ℕ, zero, suc, Bool, true, false, not, cond, nat_eq, List, [], ◌∷◌, length, map, Option, Some, None, slice_get, option_and_then, arith, refl, ap, sym, subst, ◌∙◌}
 use Rattle.std.specs.Prelude.{IsTrue}
 use Rattle.std.specs.List.{AllByRecursion}
 use Rattle.std.proofs.lemmas.Bool.{cases_Bool}
@@ -17,15 +17,14 @@ use Rattle.chc_values.proofs.ValueSorts.{truth_value}
 use Rattle.chc_terms.specs.declared.term.Kind.TheVariants as kind
 use Rattle.chc_terms.specs.declared.term.Term.{Term}
 use Rattle.chc_terms.specs.declared.term.Term.TheVariants as term
-use Rattle.chc_terms.specs.Has.{Has, TermHas, EachHas, AllHave, SomeHas, silent}
+use Rattle.chc_terms.specs.Has.{TermHas, EachHas, AllHave, SomeHas, silent}
 use Rattle.chc_terms.specs.Laws.{Means}
-use Rattle.chc_terms.specs.Sorted.{Context, sort_of, truth_at, when, is_plain}
+use Rattle.chc_terms.specs.Sorted.{sort_of, truth_at, when, is_plain}
 use Rattle.chc_terms.proofs.HasLaws.{Has-Lit, Has-App, Has-Pred, Has-Quant}
 use Rattle.chc_terms.proofs.SameSort.{same_sorts_itself}
 use Rattle.chc_terms.proofs.SortLaws.{sort_of-Pred}
 use Rattle.chc_terms.proofs.TermLaws.{one_value, some_value, same_meaning}
 use Rattle.chc_state.specs.declared.clause.Atom.{Atom}
-use Rattle.chc_state.specs.declared.clause.Clause.{Clause}
 use Rattle.chc_state.specs.declared.defs.Defs.{Defs}
 use Rattle.chc_state.specs.States.{StateView}
 use Rattle.chc_state.specs.Sorts.{clause_context}
@@ -34,7 +33,7 @@ use Rattle.chc_state.specs.Definitions.{PredMeans, DefMeans, HasUnder, Says, Hea
 use Rattle.chc_state.proofs.Defined.{defined_context, defined_means, Total, decided_total}
 use Rattle.chc_state.proofs.Valued.{plain_unquantified, silent_means, silent_total}
 use Rattle.chc_script.specs.Clauses.{ints, constraints_of, atoms_of, clause_of, atom_term, part_term, head_term, conjunction, implication, matrix_term, for_all}
-use Rattle.chc_script.specs.Assertions.{IsAt, KeepsAssertions}
+use Rattle.chc_script.specs.Assertions.{KeepsAssertions}
 use Rattle.chc_script.specs.Made.{IsPlainOf, IsAtomOver, IsPartOver, IsHeadOver, IsMade, AreMade}
 use Rattle.chc_script.specs.Scripts.{ScriptView}
 use Rattle.chc_script.specs.declared.first.build.Assertion.{Assertion}
@@ -196,7 +195,7 @@ module _ (s : StateView) (w : List WorldEntry) (d : Defs) (world : IsWorld s.sig
   for_all_from zero body h = h [] tt
   for_all_from (suc n) body h =
       let quantified : Under (term.Quant kind.Forall (ints (suc n)) body) [] yes =
-          rw (Has-Quant s.sig w (PredMeans s.sig w d) (DefMeans s.sig w d) kind.Forall (ints (suc n)) body [] yes) (inl (refl, h))
+      rw (Has-Quant s.sig w (PredMeans s.sig w d) (DefMeans s.sig w d) kind.Forall (ints (suc n)) body [] yes) (inl (refl, h))
       in
       subst (λ (t : Term). Under t [] yes) (sym (for_all-suc n body)) quantified
 
@@ -231,7 +230,7 @@ module _ (s : StateView) (w : List WorldEntry) (d : Defs) (world : IsWorld s.sig
         let hold = parts_under n (p ∷ ps) over env fires.truths fires.atoms in
         head_holds n head on env
         (head_by_implication (conjunction (map part_term (p ∷ ps))) (head_term head) env
-          (λ k. none_false (p ∷ ps) over hold (false_conjunction (map part_term (p ∷ ps)) env k)) h)
+        (λ k. none_false (p ∷ ps) over hold (false_conjunction (map part_term (p ∷ ps)) env k)) h)
 
     -- a truth value that a part's term has
     truth_under : (t : Term) (v : Value) → IsOf s.sig v sort.Bool → Under t env v → Under t env yes ⊎ Under t env no
@@ -268,7 +267,7 @@ module _ (s : StateView) (w : List WorldEntry) (d : Defs) (world : IsWorld s.sig
           let said = total.live_total a.pred p.decl p.declared p.live args.values (subst (λ (l : List Sort). AreOf s.sig args.values l) (sym p.sorts) args.are_ints) in
           let of = (means.preds_fit a.pred (ints (length a.args)) (positions-at s.preds n a p)).of args.values args.are_ints said.0 said.1 in
           let value : Under (atom_term a) env said.0 =
-              rw (Has-Pred s.sig w (PredMeans s.sig w d) (DefMeans s.sig w d) a.pred a.args env said.0) (args.values, each_under n a.args p.args env args.values args.have, said.1)
+          rw (Has-Pred s.sig w (PredMeans s.sig w d) (DefMeans s.sig w d) a.pred a.args env said.0) (args.values, each_under n a.args p.args env args.values args.have, said.1)
           in
           truth_under (atom_term a) said.0 of value
 
@@ -288,7 +287,7 @@ module _ (s : StateView) (w : List WorldEntry) (d : Defs) (world : IsWorld s.sig
           let premise = conjunction (map part_term (p ∷ ps)) in
           elim (parts_decided (p ∷ ps) over) [
             | inl k ↦ implication_by_head premise (head_term head) env
-              (head_under n head on env (h (record { sorted = are; truths = constraints_hold n (p ∷ ps) over env k; atoms = atoms_hold n (p ∷ ps) over env k })))
+                (head_under n head on env (h (record { sorted = are; truths = constraints_hold n (p ∷ ps) over env k; atoms = atoms_hold n (p ∷ ps) over env k })))
             | inr k ↦ implication_by_premise premise (head_term head) env (conjunction_false (map part_term (p ∷ ps)) env k)
           ]
 

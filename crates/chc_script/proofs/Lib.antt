@@ -1,5 +1,4 @@
 pub mod Ints
-pub mod IntSorts
 pub mod Kept
 pub mod Made
 pub mod MadeLaws

@@ -1,6 +1,5 @@
 -- What the assertions that trees stand for were made of.
-use Rattle.std.proofs.Common.{◌≡◌, ℕ, zero, suc, Bool, true, false, ◌&&◌, cond, nat_eq, List, [], ◌∷◌, ◌++◌, length, Option, Some, None, slice_get, arith, length-append, ◌+◌, refl, ap, sym, subst, ◌∙◌}
-use Rattle.std.specs.Prelude.{codes}
+use Rattle.std.proofs.Common.{◌≡◌, ℕ, zero, suc, Bool, true, false, cond, nat_eq, List, [], ◌∷◌, ◌++◌, length, Option, Some, None, slice_get, arith, length-append, ◌+◌, refl, ap, sym, subst, ◌∙◌}
 use Rattle.std.specs.List.{AllByRecursion}
 use Rattle.std.specs.Option.{option_map}
 use Rattle.std.proofs.lemmas.Bool.{and_parts}
@@ -13,7 +12,7 @@ use Rattle.chc_terms.specs.declared.term.Term.{Term}
 use Rattle.chc_terms.specs.declared.term.Term.TheVariants as term
 use Rattle.chc_state.specs.declared.clause.Atom.{Atom}
 use Rattle.chc_state.specs.declared.clause.PredDecl.{PredDecl}
-use Rattle.chc_script.specs.Clauses.{DeclaredView, ints, decl_takes, takes, applied_of, atom_on, atom_of, operands_at, constraint_on, constraint_or, part_of, parts_after, parts_of, conjuncts_of, head_of, assertion_of, implication_at, matrix_at, matrix_of, assertion_at, assertion, variables_of, forall_of}
+use Rattle.chc_script.specs.Clauses.{DeclaredView, ints, decl_takes, takes, applied_of, atom_on, atom_of, operands_at, constraint_or, part_of, parts_after, parts_of, conjuncts_of, head_of, assertion_of, implication_at, matrix_at, matrix_of, assertion_at, assertion, variables_of, forall_of}
 use Rattle.chc_script.specs.Made.{IsPlainOf, HasInts, IsAtomOver, IsPartOver, IsHeadOver, IsMade}
 use Rattle.chc_script.specs.Readings.{◌>>=◌}
 use Rattle.chc_script.specs.Shapes.{is_symbol, pair_of}

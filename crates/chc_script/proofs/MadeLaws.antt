@@ -1,22 +1,22 @@
 -- Clauses that were made of parts use live predicates alone and are well sorted.
-use Rattle.std.proofs.Common.{◌≡◌, ℕ, zero, suc, Bool, true, false, ◌&&◌, not, nat_eq, nat_lt, List, [], ◌∷◌, ◌++◌, length, map, Option, Some, None, slice_get, option_map, option_and_then, refl, ap, sym, subst, ◌∙◌}
+use Rattle.std.proofs.Common.{◌≡◌, ℕ, zero, suc, Bool, true, ◌&&◌, not, nat_eq, nat_lt, List, [], ◌∷◌, ◌++◌, length, Option, Some, None, slice_get, option_map, option_and_then, refl, ap, sym, subst, ◌∙◌}
 use Rattle.std.specs.List.{AllByRecursion, list_all}
 use Rattle.std.proofs.lemmas.Bool.{and_from, and_parts}
 use Rattle.std.proofs.lemmas.Bool.Decides.{Decides-eqb}
 use Rattle.std.proofs.lemmas.Option.{slice_get-map}
-use Rattle.chc_sorts.specs.declared.sort.Sort.{Sort, Sort-F, fold-Sort, fold-roll-Sort}
+use Rattle.chc_sorts.specs.declared.sort.Sort.{Sort-F, fold-Sort, fold-roll-Sort}
 use Rattle.chc_sorts.specs.declared.sort.Sort.TheVariants as sort
 use Rattle.chc_sorts.specs.Signature.{Signature}
 use Rattle.chc_sexpr.specs.Spelling.{is_quotable}
 use Rattle.chc_terms.specs.declared.term.Term.{Term}
 use Rattle.chc_terms.proofs.SameSort.{same_itself, same_sorts_itself}
-use Rattle.chc_terms.specs.Sorted.{Context, sort_of, sorts_of, same_sorts, is_plain, is_declared_step, sort_depth, sort_depth_step, sort_fits}
+use Rattle.chc_terms.specs.Sorted.{Context, sorts_of, is_plain, is_declared_step, sort_depth, sort_depth_step, sort_fits}
 use Rattle.chc_state.specs.declared.clause.Atom.{Atom}
 use Rattle.chc_state.specs.declared.clause.Clause.{Clause}
 use Rattle.chc_state.specs.declared.clause.PredDecl.{PredDecl}
 use Rattle.chc_state.specs.Sorts.{clause_context, is_sort, are_sorts, positions, is_condition, is_sorted_atom, is_sorted_clause, positions_fit, are_sorted}
 use Rattle.chc_state.specs.States.{live_decl, on_live, head_all, uses_live}
-use Rattle.chc_script.specs.Clauses.{ints, constraints_of, atoms_of, clause_of}
+use Rattle.chc_script.specs.Clauses.{ints, constraints_of, atoms_of}
 use Rattle.chc_script.specs.Made.{IsPlainOf, HasInts, IsAtomOver, IsPartOver, IsHeadOver, IsMade, AreMade}
 use Rattle.chc_script.specs.Names.{has_name, is_fixed}
 use Rattle.chc_script.specs.Scripts.{DraftView, is_open, may_declare}

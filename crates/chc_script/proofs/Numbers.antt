@@ -1,7 +1,7 @@
 -- First terms are plain and of sort Int, whatever is declared.
-use Rattle.std.proofs.Common.{◌≡◌, ℕ, ℤ, ◌<◌, Bool, true, false, ◌&&◌, cond, List, [], ◌∷◌, ◌++◌, length, map, Option, Some, None, slice_get, option_map, option_and_then, refl, ap, sym, subst, ◌∙◌}
+use Rattle.std.proofs.Common.{◌≡◌, ℕ, ℤ, ◌<◌, Bool, true, false, ◌&&◌, List, [], ◌∷◌, ◌++◌, length, map, Option, Some, None, option_map, option_and_then, refl, ap, sym, subst, ◌∙◌}
 use Rattle.std.specs.Prelude.{codes}
-use Rattle.std.specs.List.{AllByRecursion, list_all}
+use Rattle.std.specs.List.{AllByRecursion}
 use Rattle.std.specs.Str.{bytes_eq}
 use Rattle.std.proofs.lemmas.List.Quantifiers.{position-Some}
 use Rattle.chc_sorts.specs.declared.op.Op.{Op}
@@ -9,19 +9,17 @@ use Rattle.chc_sorts.specs.declared.op.Op.TheVariants as op
 use Rattle.chc_sorts.specs.declared.sort.Sort.{Sort}
 use Rattle.chc_sorts.specs.declared.sort.Sort.TheVariants as sort
 use Rattle.chc_sexpr.specs.declared.tree.Tree.{Tree}
-use Rattle.chc_sexpr.specs.declared.tree.Tree.TheVariants.{Group}
 use Rattle.chc_sexpr.proofs.Folds.{TreeCases, tree_ind}
 use Rattle.chc_terms.specs.declared.term.Term.{Term}
 use Rattle.chc_terms.specs.declared.term.Term.TheVariants as term
-use Rattle.chc_terms.specs.Sorted.{Context, op_sort, sort_of, sorts_of, same_sorts, when, is_plain}
+use Rattle.chc_terms.specs.Sorted.{Context, op_sort, sorts_of, same_sorts, when, is_plain}
 use Rattle.chc_terms.proofs.SameSort.{same_sorts_itself}
 use Rattle.chc_terms.proofs.SortLaws.{sort_of-Var, sort_of-Num, sort_of-App, is_plain-Var, is_plain-Num, is_plain-App}
 use Rattle.chc_script.specs.Clauses.{ints}
 use Rattle.chc_script.specs.Made.{IsPlainOf}
-use Rattle.chc_script.specs.Readings.{◌>>=◌}
 use Rattle.chc_script.specs.Shapes.{is_symbol}
 use Rattle.chc_script.specs.Terms.{number_of, sum_of, group_term, term_of, terms_after, terms_of}
-use Rattle.chc_script.proofs.IntSorts.{ints-at}
+use Rattle.chc_script.proofs.Ints.{ints-at}
 use Rattle.chc_script.proofs.Readings.{some_same, none_not_some, map_some, bind_some}
 use Rattle.chc_script.proofs.TermLaws.{term_of-Symbol, term_of-Word, term_of-Keyword, term_of-Numeral, term_of-Text, term_of-Other, term_of-Group}
 

@@ -16,9 +16,18 @@ fn script_with(alloc: Global, commands: &[u8]) -> Result<ByteText, NoMemory> {
     Ok(text)
 }
 
+/// The script of a short text.
+fn read_short(alloc: Global, text: &[u8]) -> Result<Option<Script>, NoMemory> {
+    if text.len() < 65536 {
+        read_first(alloc, text)
+    } else {
+        Ok(None)
+    }
+}
+
 /// Whether a text is read, or `None` where memory was refused.
 fn is_read(alloc: Global, text: &[u8]) -> Option<bool> {
-    match read_first(alloc, text) {
+    match read_short(alloc, text) {
         Ok(read) => Some(read.is_some()),
         Err(_) => None,
     }
@@ -44,6 +53,7 @@ fn name_of(op: &Op) -> &'static [u8] {
     }
 }
 
+#[cycle(show)]
 fn show_applied(
     alloc: Global,
     out: &mut ByteText,
@@ -58,6 +68,7 @@ fn show_applied(
     out.push(b')')
 }
 
+#[cycle(show)]
 fn show_term(alloc: Global, out: &mut ByteText, term: &Term) -> Result<(), NoMemory> {
     match term {
         Term::Var(number) => out.extend(format!(in alloc; " x{number}")?.as_bytes()),
@@ -192,7 +203,7 @@ a b;c 1
 
 /// Whether the script that the text stands for is shown so, or `None` where memory was refused.
 fn is_shown(alloc: Global, text: &[u8], wanted: &[u8]) -> Option<bool> {
-    match read_first(alloc, text) {
+    match read_short(alloc, text) {
         Ok(Some(script)) => match shown(alloc, &script) {
             Ok(text) => Some(text.bytes() == wanted),
             Err(_) => None,

@@ -102,8 +102,8 @@ module _ (sig : Signature) where
         stored_of = t.6;
       }
 
-  same_read : (d e a b : Value) (i j : Value) (vs : List Value) → vs ≡ a ∷ i ∷ [] → vs ≡ b ∷ j ∷ [] → (a ≡ b) × (i ≡ j)
-  same_read d e a b i j vs p q = (cc, cc)
+  same_read : (a b i j : Value) (vs : List Value) → vs ≡ a ∷ i ∷ [] → vs ≡ b ∷ j ∷ [] → (a ≡ b) × (i ≡ j)
+  same_read a b i j vs p q = (cc, cc)
 
   same_index : (i j : ℤ) → value.Int i ≡ value.Int j → i ≡ j
   same_index i j e = cc
@@ -112,7 +112,7 @@ module _ (sig : Signature) where
     -- what is read, at the array and the index that stand there
     read_at : (vs : List Value) (s : Sort) (r : ReadAt vs s) (v : Value) → Applies sig w op.Select vs v → HasAt r.default r.exceptions r.index v
     read_at vs s r v x =
-        let e = same_read x.0 r.default (value.Array x.0 x.1) (value.Array r.default r.exceptions) (value.Int x.2) (value.Int r.index) vs x.3 r.values_are in
+        let e = same_read (value.Array x.0 x.1) (value.Array r.default r.exceptions) (value.Int x.2) (value.Int r.index) vs x.3 r.values_are in
         let p = same_array x.0 r.default x.1 r.exceptions e.0 in let q = same_index x.2 r.index e.1 in
         subst (λ (t : record { d : Value; es : List (ℤ × Value); i : ℤ }). HasAt t.d t.es t.i v) (λ k. record { d = p.0 k; es = p.1 k; i = q k }) x.4
 

@@ -14,7 +14,7 @@ use Rattle.chc_values.specs.declared.value.Value.TheVariants as value
 use Rattle.chc_values.specs.declared.world.WorldEntry.{WorldEntry}
 use Rattle.chc_values.specs.Values.{HasFields, IsOf, AreOf}
 use Rattle.chc_values.specs.Worlds.{IsWorld, KeysOnce, EntryFits, SelectsOpen}
-use Rattle.chc_values.proofs.Datatypes.{one_fields, same_data, same_datatype, fields_held, data_of, one_selected, selected_of}
+use Rattle.chc_values.proofs.Datatypes.{one_fields, same_data, fields_held, data_of, one_selected, selected_of}
 use Rattle.chc_terms.specs.Has.{Applies}
 use Rattle.chc_terms.specs.Sorted.{op_sort, fields_of, when, same_sorts}
 use Rattle.chc_terms.proofs.SameSort.{same_sorts_from_test}

@@ -14,10 +14,11 @@ use Rattle.chc_values.proofs.ValueSorts as ValueSorts
 use Rattle.chc_terms.specs.declared.term.Term.{Term}
 use Rattle.chc_terms.specs.Has.{Meaning, Has, EachHas}
 use Rattle.chc_terms.specs.Sorted.{Context, sort_of, sorts_of, is_plain, is_unquantified}
-use Rattle.chc_terms.specs.Laws.{OneValue, SomeValue, SameMeaning, Means, AreTotal}
+use Rattle.chc_terms.specs.Laws.{OneValue, OneValueUnderAny, SomeValue, SameMeaning, Means, AreTotal}
 use Rattle.chc_terms.proofs.Contexts.{alone, alone_extends, sort_kept, sorts_kept}
 use Rattle.chc_terms.proofs.SameSort.{both_true}
-use Rattle.chc_terms.proofs.OperatorLaws.{operators_fit, operators_answer, no_datatypes_fit, no_datatypes_answer}
+use Rattle.chc_terms.proofs.OperatorLaws.{operators_fit, operators_answer, no_datatypes_answer}
+use Rattle.chc_terms.proofs.DatatypeOperators.{datatypes_fit}
 use Rattle.chc_terms.proofs.Uniqueness.{terms_single}
 use Rattle.chc_terms.proofs.Existence.{terms_have}
 use Rattle.chc_terms.proofs.TermLaws as TermLaws
@@ -25,6 +26,9 @@ use Rattle.chc_terms.proofs.TermLaws as TermLaws
 -- the laws of one term
 pub one_value : OneValue
 one_value = TermLaws.one_value
+
+pub one_value_under_any : OneValueUnderAny
+one_value_under_any = TermLaws.one_value_under_any
 
 pub some_value : SomeValue
 some_value = TermLaws.some_value
@@ -51,17 +55,17 @@ pub nothing_to_answer : (sig : Signature) (preds defs : Meaning) → AreTotal (r
 nothing_to_answer sig preds defs = record { preds_total = λ p params h. absurd (none-some params h); defs_total = λ k f h. absurd (none-some f h) }
 
 -- the laws of lists of terms
-module _ (cx : Context) (w : List WorldEntry) (preds defs : Meaning) (world : IsWorld cx.sig w) (none : cx.sig.datatypes ≡ []) (means : Means cx preds defs)
+module _ (cx : Context) (w : List WorldEntry) (preds defs : Meaning) (world : IsWorld cx.sig w) (means : Means cx preds defs)
     (ts : List Term) (vars sorts : List Sort) (sorted : sorts_of cx ts vars ≡ Some sorts) (env : List Value) (fits : AreOf cx.sig env vars) where
   pub one_list : (us vs : List Value) → EachHas (Has cx.sig w preds defs) ts env us → EachHas (Has cx.sig w preds defs) ts env vs → us ≡ vs
-  one_list = (terms_single cx w preds defs (operators_fit cx.sig w world.0 (no_datatypes_fit cx.sig w none)) means ts vars sorts sorted env fits).one
+  one_list = (terms_single cx w preds defs (operators_fit cx.sig w world.0 (datatypes_fit cx.sig w world)) means ts vars sorts sorted env fits).one
 
   pub list_of_sorts : (vs : List Value) → EachHas (Has cx.sig w preds defs) ts env vs → AreOf cx.sig vs sorts
-  list_of_sorts = (terms_single cx w preds defs (operators_fit cx.sig w world.0 (no_datatypes_fit cx.sig w none)) means ts vars sorts sorted env fits).of
+  list_of_sorts = (terms_single cx w preds defs (operators_fit cx.sig w world.0 (datatypes_fit cx.sig w world)) means ts vars sorts sorted env fits).of
 
-  pub some_list : AreTotal cx preds defs → list_all (λ b. b) (map is_unquantified ts) ≡ true → (vs : List Value) × EachHas (Has cx.sig w preds defs) ts env vs
-  some_list total q =
-      terms_have cx w preds defs (operators_fit cx.sig w world.0 (no_datatypes_fit cx.sig w none)) (operators_answer cx.sig w (no_datatypes_answer cx.sig w none)) means total
+  pub some_list : cx.sig.datatypes ≡ [] → AreTotal cx preds defs → list_all (λ b. b) (map is_unquantified ts) ≡ true → (vs : List Value) × EachHas (Has cx.sig w preds defs) ts env vs
+  some_list none total q =
+      terms_have cx w preds defs (operators_fit cx.sig w world.0 (datatypes_fit cx.sig w world)) (operators_answer cx.sig w (no_datatypes_answer cx.sig w none)) means total
       ts q vars sorts sorted env fits
 
 -- what plain terms have doesn't depend on what predicates and definitions mean

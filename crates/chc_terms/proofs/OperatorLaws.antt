@@ -1,4 +1,4 @@
--- The laws of all operators, under a signature without datatypes.
+-- The laws of all operators, from those of the operators on datatypes, and these where there is no datatype.
 use Rattle.std.proofs.Common.{◌≡◌, ℕ, List, [], Some, None, sym, ◌∙◌}
 use Rattle.std.proofs.lemmas.Option.{none-some}
 use Rattle.chc_sorts.specs.declared.sort.Sort.{Sort}
@@ -76,13 +76,6 @@ module _ (sig : Signature) (w : List WorldEntry) where
 
     no_is : (d c : ℕ) (sorts : List Sort) (s : Sort) → op_sort sig (op.Is d c) sorts ≡ Some s → ⊥
     no_is d c sorts s h = none-some s (let e : op_sort sig (op.Is d c) sorts ≡ None = rw none in sym e ∙ h)
-
-    pub no_datatypes_fit : DatatypesFit sig w
-    no_datatypes_fit = record {
-      make_fits = λ d c. record { one = λ sorts s h vs a u v x y. absurd (no_make d c sorts s h); of = λ sorts s h vs a v x. absurd (no_make d c sorts s h) };
-      get_fits = λ d c i. record { one = λ sorts s h vs a u v x y. absurd (no_get d c i sorts s h); of = λ sorts s h vs a v x. absurd (no_get d c i sorts s h) };
-      is_fits = λ d c. record { one = λ sorts s h vs a u v x y. absurd (no_is d c sorts s h); of = λ sorts s h vs a v x. absurd (no_is d c sorts s h) };
-    }
 
     pub no_datatypes_answer : DatatypesAnswer sig w
     no_datatypes_answer = record {

@@ -4,7 +4,6 @@ use Rattle.std.specs.Prelude.{nat_eq}
 use Rattle.std.proofs.lemmas.Bool.{false≢true}
 use Rattle.std.proofs.lemmas.Bool.Decides.{nat_tests}
 use Rattle.std.proofs.Common.{arith}
-use Rattle.std.specs.List.{list_all}
 use Rattle.chc_sorts.specs.declared.sort.Sort.{Sort, Sort-F, out-Sort, roll-Sort, roll-out-Sort, map-Sort, ind-Sort, fold-roll-Sort}
 use Rattle.chc_sorts.specs.declared.sort.Sort.TheVariants as sort
 use Rattle.chc_terms.specs.Sorted.{same_level, same_sort, same_sorts}
@@ -114,14 +113,3 @@ same_sorts_from_test (s ∷ ss) (t ∷ ts) h =
 pub same_sorts_itself : (ss : List Sort) → same_sorts ss ss ≡ true
 same_sorts_itself [] = refl
 same_sorts_itself (s ∷ ss) = rw (same_itself s) (same_sorts_itself ss)
-
--- all of the sorts are this one
-pub all_same : (s : Sort) (ss : List Sort) → list_all (same_sort s) ss ≡ true → (t : Sort) (ts : List Sort) → ss ≡ t ∷ ts → (t ≡ s) × (list_all (same_sort s) ts ≡ true)
-all_same s [] h t ts e = absurd (nothing e)
-  where
-    nothing : ◌≡◌ {A = List Sort} [] (t ∷ ts) → ⊥
-    nothing e = cc
-all_same s (x ∷ xs) h t ts e =
-    let b = both_true (same_sort s x) (list_all (same_sort s) xs) h in
-    let p : x ≡ t = cc in let q : xs ≡ ts = cc in
-    (sym p ∙ sym (same_from_test s x b.0), subst (λ y. list_all (same_sort s) y ≡ true) q b.1)

@@ -39,6 +39,13 @@ OneValue =
     → (env : List Value) → AreOf cx.sig env vars
     → IsFunctional cx.sig (λ k vs v. Has cx.sig w preds defs t vs v) 0 vars s
 
+-- the same under any signature, whether it has datatypes or not
+abbrev pub OneValueUnderAny : Type 1
+OneValueUnderAny =
+    (cx : Context) (w : List WorldEntry) (preds defs : Meaning) → IsWorld cx.sig w → Means cx preds defs
+    → (t : Term) (vars : List Sort) (s : Sort) → sort_of cx t vars ≡ Some s
+    → IsFunctional cx.sig (λ k vs v. Has cx.sig w preds defs t vs v) 0 vars s
+
 -- a well-sorted term without quantifiers has a value, where its predicates and definitions have
 abbrev pub SomeValue : Type 1
 SomeValue =

@@ -60,10 +60,9 @@ fn head_term(alloc: Global, head: &Option<Atom>) -> Result<Term, NoMemory>
 }
 
 /// One term alone, and of several the conjunction.
-fn conjunction(terms: Terms) -> Term
+fn conjunction(mut terms: Terms) -> Term
     ensures { result ≡ conjunction terms }
 {
-    let mut terms = terms;
     if terms.len() == 1 {
         terms.remove(0)
     } else {

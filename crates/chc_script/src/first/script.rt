@@ -71,7 +71,8 @@ fn read_commands(alloc: Global, trees: &[Tree]) -> Result<Option<Script>, NoMemo
 
 /// Reads a first script, a text of at most 4,294,967,295 bytes. Its commands are, in this order, `(set-logic HORN)`,
 /// declarations `(declare-fun p (Int ..) Bool)`, assertions and `(check-sat)`. Gives the script that the bytes stand for,
-/// or `None` where they are no first script or pass a limit. The only error is that memory was refused.
+/// or `None` where they are no first script or pass a limit. Every assertion is kept as the term that it is, beside its
+/// clause. The only error is that memory was refused.
 pub fn read_first(alloc: Global, bytes: &[u8]) -> Result<Option<Script>, NoMemory>
     requires { length bytes.now < 2 ^ 32 }
     ensures value { IsFirstReading bytes.now result }

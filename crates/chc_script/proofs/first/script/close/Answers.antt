@@ -1,11 +1,9 @@
-use Rattle.std.proofs.Common.{rules, ◌≡◌, true, List, sym, subst}
+use Rattle.std.proofs.Common.{rules, ◌≡◌, List, sym, subst}
 use Rattle.std.specs.List.{AllByRecursion}
 use Rattle.chc_sorts.specs.Signature.{no_datatypes}
 use Rattle.chc_terms.specs.declared.term.Term.{Term}
 use Rattle.chc_state.specs.declared.clause.Clause.{Clause}
 use Rattle.chc_state.specs.declared.clause.PredDecl.{PredDecl}
-use Rattle.chc_state.specs.Sorts.{are_sorted}
-use Rattle.chc_state.specs.States.{uses_live}
 use Rattle.chc_script.specs.Clauses.{DeclaredView}
 use Rattle.chc_script.specs.Made.{AreMade, HasInts}
 use Rattle.chc_script.proofs.Kept.{made_kept}

@@ -1,4 +1,4 @@
-use Rattle.std.proofs.Common.{rules, arith, ◌≡◌, ◌+◌, ◌<◌, true, false, List, [], ◌∷◌, ◌++◌, length, ap, sym, subst}
+use Rattle.std.proofs.Common.{rules, arith, ◌≡◌, ◌+◌, ◌<◌, true, false, [], ◌∷◌, ◌++◌, length, ap, sym, subst}
 use Rattle.std.specs.List.{AllByRecursion}
 use Rattle.std.proofs.lemmas.List.{length-append}
 use Rattle.chc_sexpr.specs.Names.{AreNames}
@@ -6,7 +6,7 @@ use Rattle.chc_state.specs.declared.clause.PredDecl.{PredDecl}
 use Rattle.chc_script.specs.Clauses.{ints, most_predicates}
 use Rattle.chc_script.specs.Made.{HasInts}
 use Rattle.chc_script.specs.Names.{has_name}
-use Rattle.chc_script.proofs.IntSorts.{ints_have_ints}
+use Rattle.chc_script.proofs.Ints.{ints_have_ints}
 use Rattle.chc_script.proofs.Made.{all_push}
 use Rattle.chc_script.proofs.NameLaws.{names_longer}
 use Rattle.chc_script.proofs.first.declared.Declared.with.Goals as goal
@@ -21,10 +21,9 @@ invariant_of-result c =
     let names : c.add.new.self ≡ c.self.inside.names ++ c.args.name.now ∷ [] = search rules in
     let preds : c.push.new.self ≡ c.self.inside.preds ++ decl ∷ [] = search rules in
     let more_names : length c.add.new.self ≡ length c.self.inside.names + 1 = simp length-append at (ap length names) in
-    let more_preds : length c.push.new.self ≡ length c.self.inside.preds + 1 = simp length-append at (ap length preds) in
-    (
+    let more_preds : length c.push.new.self ≡ length c.self.inside.preds + 1 = simp length-append at (ap length preds) in (
       omega (arith, before.0, more_names, more_preds),
       omega (arith, few, more_preds),
       subst AreNames (sym names) (names_longer c.self.inside.names c.args.name.now before.2 fresh c.requires.quotable),
-      subst (AllByRecursion HasInts) (sym preds) (all_push HasInts c.self.inside.preds decl before.3 (ints_have_ints c.args.count))
+      subst (AllByRecursion HasInts) (sym preds) (all_push HasInts c.self.inside.preds decl before.3 (ints_have_ints c.args.count)),
     )

@@ -1,8 +1,7 @@
-use Rattle.std.proofs.Common.{rules, ◌≡◌, List, [], ◌∷◌, ◌++◌, Some, ap, sym, subst}
+use Rattle.std.proofs.Common.{rules, ◌≡◌, List, [], ◌∷◌, ◌++◌, Some, sym, subst}
 use Rattle.std.specs.List.{AllByRecursion}
 use Rattle.chc_terms.specs.declared.term.Term.{Term}
 use Rattle.chc_state.specs.declared.clause.Clause.{Clause}
-use Rattle.chc_state.specs.declared.clause.PredDecl.{PredDecl}
 use Rattle.chc_script.specs.Clauses.{DeclaredView, assertion}
 use Rattle.chc_script.specs.Made.{HasInts, AreMade}
 use Rattle.chc_script.proofs.Made.{assertion_made}
