@@ -4,6 +4,7 @@ pub mod Depths
 pub mod Folds
 pub mod Heads
 pub mod Moves
+pub mod OneFault
 pub mod Runs
 pub mod Scans
 pub mod Spelled

@@ -81,7 +81,7 @@ number_first : (place : ℕ) (ds after : List ℕ) → is_whole_number ds ≡ tr
 number_first place [] after whole all = absurd (false≢true whole)
 number_first place (d ∷ ds) after whole all = cond-true (is_ascii_digit d) _ _ (and_parts (is_ascii_digit d) (list_all is_ascii_digit ds) all).0
 
-number_reads : (place : ℕ) (ds after : List ℕ) → is_whole_number ds ≡ true → stops is_ascii_digit after ≡ true → token_at place (ds ++ after) ≡ number_of (fraction after) (length ds) place (ds ++ after)
+pub number_reads : (place : ℕ) (ds after : List ℕ) → is_whole_number ds ≡ true → stops is_ascii_digit after ≡ true → token_at place (ds ++ after) ≡ number_of (fraction after) (length ds) place (ds ++ after)
 number_reads place ds after whole end =
     let bs = ds ++ after in
     let all = whole_digits ds whole in
@@ -90,7 +90,7 @@ number_reads place ds after whole end =
     ∙ cond-false (has_needless_zero (length ds) bs) _ _ (needless_not ds after whole)
     ∙ ap (λ rest. number_of (fraction rest) (length ds) place bs) (drop_at ds after (length ds) refl)
 
-digit_is_symbol_byte : (b : ℕ) → is_ascii_digit b ≡ true → is_symbol_byte b ≡ true
+pub digit_is_symbol_byte : (b : ℕ) → is_ascii_digit b ≡ true → is_symbol_byte b ≡ true
 digit_is_symbol_byte b h = grind arith
 
 no_point : (b : ℕ) → is_symbol_byte b ≡ false → eqb b 46 ≡ false
@@ -100,28 +100,34 @@ no_fraction : (after : List ℕ) → stops is_symbol_byte after ≡ true → fra
 no_fraction [] end = refl
 no_fraction (b ∷ bs) end = cond-false (eqb b 46) _ _ (no_point b (not-true (is_symbol_byte b) end))
 
-numeral_reads : (place n : ℕ) (after : List ℕ) → n < 2 ^ 127 → stops is_symbol_byte after ≡ true → token_at place (decimal n ++ after) ≡ Ok (record { tree = Numeral place (pos n); length = length (decimal n) })
-numeral_reads place n after small end =
-    let ds : List ℕ = decimal n in
+-- a whole number in range is read, up to what follows it
+pub numeral_ends : (place n : ℕ) (ds after : List ℕ) → is_whole_number ds ≡ true → digits_value 10 ds ≡ n → n < 2 ^ 127 → stops is_ascii_digit after ≡ true → fraction after ≡ 0 →
+    token_at place (ds ++ after) ≡ ended is_symbol_byte place (ds ++ after) (record { tree = Numeral place (pos n); length = length ds })
+numeral_ends place n ds after whole value_is small end alone =
     let bs = ds ++ after in
-    let value : digits_value 10 (take (length ds) bs) ≡ n = ap (digits_value 10) (take_at ds after (length ds) refl) ∙ value_decimal n small in
-    number_reads place ds after (whole_decimal n small) (stops_fewer is_symbol_byte is_ascii_digit digit_is_symbol_byte after end)
-    ∙ ap (λ m. number_of m (length ds) place bs) (no_fraction after end)
+    let value : digits_value 10 (take (length ds) bs) ≡ n = ap (digits_value 10) (take_at ds after (length ds) refl) ∙ value_is in
+    number_reads place ds after whole end
+    ∙ ap (λ m. number_of m (length ds) place bs) alone
     ∙ ap (λ v. cond (ltb v (2 ^ 127)) (ended is_symbol_byte place bs (record { tree = Numeral place (pos v); length = length ds })) (Err (fault_at place NumeralTooLarge))) value
     ∙ cond-true (ltb n (2 ^ 127)) _ _ (lt-ltb n (2 ^ 127) small)
-    ∙ ended_is is_symbol_byte place ds after (Numeral place (pos n)) end
+
+numeral_reads : (place n : ℕ) (after : List ℕ) → n < 2 ^ 127 → stops is_symbol_byte after ≡ true → token_at place (decimal n ++ after) ≡ Ok (record { tree = Numeral place (pos n); length = length (decimal n) })
+numeral_reads place n after small end =
+    numeral_ends place n (decimal n) after (whole_decimal n small) (value_decimal n small) small (stops_fewer is_symbol_byte is_ascii_digit digit_is_symbol_byte after end) (no_fraction after end)
+    ∙ ended_is is_symbol_byte place (decimal n) after (Numeral place (pos n)) end
 
 run_some : (test : ℕ → Bool) (bs : List ℕ) → is_run test bs ≡ true → (list_all test bs ≡ true) × (0 < length bs)
 run_some test [] h = absurd (false≢true h)
 run_some test (b ∷ bs) h = (h, omega arith)
 
-decimal_reads : (place : ℕ) (whole digits after : List ℕ) → is_whole_number whole ≡ true → is_run is_ascii_digit digits ≡ true → stops is_symbol_byte after ≡ true →
-    token_at place ((whole ++ 46 ∷ digits) ++ after) ≡ Ok (token_of (Other place) (whole ++ 46 ∷ digits))
-decimal_reads place whole digits after w d end =
+-- a decimal is read, up to what follows it
+pub decimal_ends : (place : ℕ) (whole digits after : List ℕ) → is_whole_number whole ≡ true → is_run is_ascii_digit digits ≡ true → stops is_ascii_digit after ≡ true →
+    token_at place ((whole ++ 46 ∷ digits) ++ after) ≡ ended is_symbol_byte place ((whole ++ 46 ∷ digits) ++ after) (token_of (Other place) (whole ++ 46 ∷ digits))
+decimal_ends place whole digits after w d end =
     let text = whole ++ 46 ∷ digits in
     let some = run_some is_ascii_digit digits d in
     let m : ℕ = prefix_len is_ascii_digit (digits ++ after) in
-    let run : m ≡ length digits = run_is is_ascii_digit digits after some.0 (stops_fewer is_symbol_byte is_ascii_digit digit_is_symbol_byte after end) in
+    let run : m ≡ length digits = run_is is_ascii_digit digits after some.0 end in
     let parts : text ++ after ≡ whole ++ (46 ∷ digits ++ after) = append_assoc whole (46 ∷ digits) after in
     let f : fraction_of m ≡ 1 + m = cond-false (eqb m 0) _ _ (ne_eqb m 0 (λ z. omega arith)) in
     let size : length whole + (1 + m) ≡ length text = omega (arith, length-append whole (46 ∷ digits)) in
@@ -131,18 +137,28 @@ decimal_reads place whole digits after w d end =
     ∙ ap (λ k. number_of k (length whole) place (text ++ after)) f
     ∙ cond-false (eqb (1 + m) 0) _ _ (ne_eqb (1 + m) 0 (λ z. omega arith))
     ∙ ap (ended is_symbol_byte place (text ++ after)) (front_is (Other place) text after (length whole + (1 + m)) size)
-    ∙ ended_is is_symbol_byte place text after (Other place text) end
 
-based_reads : (digit tail : ℕ → Bool) (place a b : ℕ) (digits after : List ℕ) → is_run digit digits ≡ true → stops digit after ≡ true → stops tail after ≡ true →
-    based_at digit tail place ((a ∷ b ∷ digits) ++ after) ≡ Ok (token_of (Other place) (a ∷ b ∷ digits))
-based_reads digit tail place a b digits after d stop end =
+decimal_reads : (place : ℕ) (whole digits after : List ℕ) → is_whole_number whole ≡ true → is_run is_ascii_digit digits ≡ true → stops is_symbol_byte after ≡ true →
+    token_at place ((whole ++ 46 ∷ digits) ++ after) ≡ Ok (token_of (Other place) (whole ++ 46 ∷ digits))
+decimal_reads place whole digits after w d end =
+    decimal_ends place whole digits after w d (stops_fewer is_symbol_byte is_ascii_digit digit_is_symbol_byte after end)
+    ∙ ended_is is_symbol_byte place (whole ++ 46 ∷ digits) after (Other place (whole ++ 46 ∷ digits)) end
+
+-- a token with a sharp is read, up to what follows it
+pub based_ends : (digit tail : ℕ → Bool) (place a b : ℕ) (digits after : List ℕ) → is_run digit digits ≡ true → stops digit after ≡ true →
+    based_at digit tail place ((a ∷ b ∷ digits) ++ after) ≡ ended tail place ((a ∷ b ∷ digits) ++ after) (token_of (Other place) (a ∷ b ∷ digits))
+based_ends digit tail place a b digits after d stop =
     let some = run_some digit digits d in
     let n : ℕ = prefix_len digit (digits ++ after) in
     let run : n ≡ length digits = run_is digit digits after some.0 stop in
     let size : 2 + n ≡ length (a ∷ b ∷ digits) = omega arith in
     cond-false (eqb n 0) _ _ (ne_eqb n 0 (λ z. omega arith))
     ∙ ap (ended tail place ((a ∷ b ∷ digits) ++ after)) (front_is (Other place) (a ∷ b ∷ digits) after (2 + n) size)
-    ∙ ended_is tail place (a ∷ b ∷ digits) after (Other place (a ∷ b ∷ digits)) end
+
+based_reads : (digit tail : ℕ → Bool) (place a b : ℕ) (digits after : List ℕ) → is_run digit digits ≡ true → stops digit after ≡ true → stops tail after ≡ true →
+    based_at digit tail place ((a ∷ b ∷ digits) ++ after) ≡ Ok (token_of (Other place) (a ∷ b ∷ digits))
+based_reads digit tail place a b digits after d stop end =
+    based_ends digit tail place a b digits after d stop ∙ ended_is tail place (a ∷ b ∷ digits) after (Other place (a ∷ b ∷ digits)) end
 
 hexdigit_is_alphanumeric : (b : ℕ) → is_ascii_hexdigit b ≡ true → is_ascii_alphanumeric b ≡ true
 hexdigit_is_alphanumeric b h = grind arith
@@ -154,7 +170,7 @@ binary_digit_continues : (b : ℕ) → is_binary_digit b ≡ true → continues_
 binary_digit_continues b h = ⊎_elim (λ e. ap continues_binary (eqb-true b 48 e)) (λ e. ap continues_binary (eqb-true b 49 e)) (or_cases (eqb b 48) (eqb b 49) h)
 
 -- strings
-plain_byte : (b : ℕ) (bs : List ℕ) → eqb b 34 ≡ false → string_from (b ∷ bs) ≡ with_byte b 1 (string_from bs)
+pub plain_byte : (b : ℕ) (bs : List ℕ) → eqb b 34 ≡ false → string_from (b ∷ bs) ≡ with_byte b 1 (string_from bs)
 plain_byte b [] e = cond-false (eqb b 34) _ _ e
 plain_byte b (c ∷ bs) e = cond-false (eqb b 34) _ _ e
 

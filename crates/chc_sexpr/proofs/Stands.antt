@@ -440,7 +440,7 @@ by_first place b bs begins =
     by_test place whole (eqb b 35) (sharp_at place whole) _ (λ e. subst (λ c. StandsIf place (c ∷ bs) (sharp_at place (c ∷ bs))) (sym (eqb-true b 35 e)) (sharp_stands place bs)) (λ h. fault_stands place place whole BadByte (nothing b bs (nothing_begins b begins s q r k h))))))))
 
 -- with what a token begins
-token_begins : (place b : ℕ) (bs : List ℕ) (t : Token) → token_at place (b ∷ bs) ≡ Ok t → BeginsToken b
+pub token_begins : (place b : ℕ) (bs : List ℕ) (t : Token) → token_at place (b ∷ bs) ≡ Ok t → BeginsToken b
 token_begins place b bs t e = record {
   white = false_from_ne_true (is_white b) (λ w. (white_begins_none b w).token place bs t e);
   comment = λ f. semicolon_begins_none.token place bs t (ap (λ c. token_at place (c ∷ bs)) (sym f) ∙ e);

@@ -1,17 +1,17 @@
 -- Texts that are written as trees: for each form, the tree that it is at its place, and how texts side by side are trees side by side.
 use Rattle.std.proofs.Common.{◌≡◌, inl, inr, ℕ, ◌+◌, ◌≤◌, ◌<◌, ◌^◌, pos, Bool, true, false, not, ◌||◌, ◌==◌, List, [], ◌∷◌, ◌++◌, length, sym, refl, subst, arith}
 use Rattle.std.specs.Prelude.{IsTrue, decimal}
-use Rattle.std.specs.List.{list_all, AllByRecursion}
+use Rattle.std.specs.List.{list_all}
 use Rattle.std.proofs.lemmas.Bool.{or_cases, eqb-true}
 use Rattle.std.proofs.Math.Nat.{max-le}
 use Rattle.chc_sexpr.specs.Tokens.{is_white, is_symbol_byte, is_simple_symbol, is_reserved}
 use Rattle.chc_sexpr.specs.Trees.{depth, depth_step, depth_all}
-use Rattle.chc_sexpr.specs.Spelling.{is_gap, is_blank_in, is_quotable, is_keyword, stops, string_of, EachSpelled, LevelSpelled, TreeSpelled, Spells}
+use Rattle.chc_sexpr.specs.Spelling.{is_gap, is_blank_in, is_quotable, stops, string_of, EachSpelled, LevelSpelled, TreeSpelled, Spells}
 use Rattle.chc_sexpr.specs.declared.tree.Tree.{Tree}
 use Rattle.chc_sexpr.specs.declared.tree.Tree.TheOpen.{Tree-F}
-use Rattle.chc_sexpr.specs.declared.tree.Tree.TheVariants.{Symbol, Word, Keyword, Numeral, Text, Group}
-use Rattle.chc_sexpr.proofs.Folds.{fold-Symbol, fold-Word, fold-Keyword, fold-Numeral, fold-Text, fold-Group}
-use Rattle.chc_sexpr.proofs.Spelled.{shut, spelled-Symbol, spelled-Word, spelled-Keyword, spelled-Numeral, spelled-Text, spelled-Group}
+use Rattle.chc_sexpr.specs.declared.tree.Tree.TheVariants.{Symbol, Word, Numeral, Text, Group}
+use Rattle.chc_sexpr.proofs.Folds.{fold-Symbol, fold-Word, fold-Numeral, fold-Text, fold-Group}
+use Rattle.chc_sexpr.proofs.Spelled.{shut, spelled-Symbol, spelled-Word, spelled-Numeral, spelled-Text, spelled-Group}
 
 -- ---- what stands behind a tree
 
@@ -113,12 +113,6 @@ module _ (kind : Tree → Type 0) (deep place : ℕ) where
       at_leaf (Word place word) (Tree-F.Word place word) word after (spelled-Word place word) is (fold-Word ℕ depth_step place word)
       (refl, refl, reserved, stops_symbol after parted)
 
-  -- a keyword
-  pub keyword_at : (word after : List ℕ) → IsTrue (is_parted after) → IsTrue (is_keyword word) → kind (Keyword place word) → TreeAt kind deep place word after
-  keyword_at word after parted key is =
-      at_leaf (Keyword place word) (Tree-F.Keyword place word) word after (spelled-Keyword place word) is (fold-Keyword ℕ depth_step place word)
-      (refl, refl, key, stops_symbol after parted)
-
   -- a number in decimal
   pub numeral_at : (n : ℕ) (after : List ℕ) → IsTrue (is_parted after) → n < 2 ^ 127 → kind (Numeral place (pos n)) → TreeAt kind deep place (decimal n) after
   numeral_at n after parted small is =
@@ -158,52 +152,6 @@ group_at inside kind deep place inner after ts is =
     let deepest : depth (Group place ts.trees) ≡ depth_all ts.trees + 1 = fold-Group ℕ depth_step place ts.trees in
     at_tree kind (deep + 1) place (Group place ts.trees) (Tree-F.Group place ts.trees) (40 ∷ inner ++ 41 ∷ []) after (spelled-Group place ts.trees) (is ts.trees ts.are)
     (let h = ts.shallow in omega arith) (refl, inner, refl, ts.spelled)
-
--- ---- trees, one for each element
-
--- the trees are the elements, one for each
-abbrev pub AreEach : {X : Type 0} → (X → Tree → Type 0) → List X → List Tree → Type 0
-AreEach is [] [] = Unit {0}
-AreEach is [] (t ∷ ts) = ⊥
-AreEach is (x ∷ xs) [] = ⊥
-AreEach is (x ∷ xs) (t ∷ ts) = is x t × AreEach is xs ts
-
--- the texts of the elements, with a space before each
-abbrev pub with_spaces : {X : Type 0} → (X → List ℕ) → List X → List ℕ
-with_spaces text [] = []
-with_spaces text (x ∷ xs) = 32 ∷ text x ++ with_spaces text xs
-
-pub with_spaces_parted : {X : Type 0} (text : X → List ℕ) (xs : List X) → IsTrue (is_parted (with_spaces text xs))
-with_spaces_parted text [] = refl
-with_spaces_parted text (x ∷ xs) = refl
-
--- a fact of all elements, one for each of a list
-pub for_each : {X : Type 0} (P : X → Type 0) → ((x : X) → P x) → (xs : List X) → AllByRecursion P xs
-for_each P h [] = tt
-for_each P h (x ∷ xs) = (h x, for_each P h xs)
-
--- texts with a space before each are trees, if each text is one
-pub each_at : {X : Type 0} (is : X → Tree → Type 0) (text : X → List ℕ) (deep : ℕ) (xs : List X) → AllByRecursion (λ x. Writes (is x) deep (text x)) xs
-    → (ends : Bool) (place : ℕ) → TreesAt (AreEach is xs) deep ends place (with_spaces text xs)
-each_at is text deep [] writes ends place = no_more_at (AreEach is []) deep ends place [] refl tt
-each_at is text deep (x ∷ xs) writes ends place =
-    next_at (is x) (AreEach is xs) (AreEach is (x ∷ xs)) deep ends place (32 ∷ []) (text x) (with_spaces text xs) refl
-    (writes.0 (place + 1) (with_spaces text xs) (with_spaces_parted text xs)) (each_at is text deep xs writes.1 ends (place + 1 + length (text x)))
-    (λ t ts one more. (one, more))
-
--- trees of which the first is of the kind, and the others are the elements
-abbrev pub AreFirstAndEach : {X : Type 0} → (Tree → Type 0) → (X → Tree → Type 0) → List X → List Tree → Type 0
-AreFirstAndEach first is xs [] = ⊥
-AreFirstAndEach first is xs (t ∷ ts) = first t × AreEach is xs ts
-
--- a text, and others with a space before each, are such trees
-pub first_and_each_at : {X : Type 0} (first : Tree → Type 0) (is : X → Tree → Type 0) (head : List ℕ) (text : X → List ℕ) (deep : ℕ) → Writes first deep head
-    → (xs : List X) → AllByRecursion (λ x. Writes (is x) deep (text x)) xs
-    → (ends : Bool) (place : ℕ) → TreesAt (AreFirstAndEach first is xs) deep ends place (head ++ with_spaces text xs)
-first_and_each_at first is head text deep begins xs writes ends place =
-    next_at first (AreEach is xs) (AreFirstAndEach first is xs) deep ends place [] head (with_spaces text xs) refl
-    (begins (place + 0) (with_spaces text xs) (with_spaces_parted text xs)) (each_at is text deep xs writes ends (place + 0 + length head))
-    (λ t ts one more. (one, more))
 
 -- ---- whole texts
 

@@ -179,6 +179,10 @@ pub record IsFirstFault (bytes : List ℕ) (fault : TextFault) : Type 0 where
   pub first : FirstFault [] 0 bytes fault.fault fault.place
   pub nameless : fault.name ≡ []
 
+-- no text has two first faults
+abbrev pub HasOneFault : Type 0
+HasOneFault = (bytes : List ℕ) (one other : TextFault) → IsFirstFault bytes one → IsFirstFault bytes other → one ≡ other
+
 -- bytes that spell no trees
 abbrev pub SpellsNone : List ℕ → Type 0
 SpellsNone bytes = (trees : List Tree) → Spells bytes trees → ⊥

@@ -9,7 +9,7 @@ mod token;
 mod tree;
 
 pub use fault::{Fault, TextErr, TextFault};
-pub use text::read_trees;
+pub use text::{first_fault_is_one, read_trees};
 pub use token::{is_reserved, is_simple_symbol};
 pub use tree::{Tree, Trees};
 

@@ -4,7 +4,7 @@ ghost use Rattle.std.specs.Prelude.{◌≡◌, ◌+◌, ◌<◌, ◌^◌, length
 ghost use Rattle.std.specs.List.{prefix_len};
 ghost use Rattle.chc_sexpr.specs.Tokens.{is_white, is_commented};
 ghost use Rattle.chc_sexpr.specs.Drafts.{BeginsToken, StepsOn, Finishes};
-ghost use Rattle.chc_sexpr.specs.Spelling.{IsTreeReading};
+ghost use Rattle.chc_sexpr.specs.Spelling.{IsTreeReading, HasOneFault};
 
 use crate::draft::Draft;
 use crate::fault::{Fault, TextErr};
@@ -113,3 +113,8 @@ pub fn read_trees(alloc: Global, bytes: &[u8]) -> Result<Trees, TextErr>
     }
     finished(alloc, draft)
 }
+
+/// The law that no text has two first faults, so that the one that `read_trees` gives is the only one.
+pub fn first_fault_is_one()
+    ensures { HasOneFault }
+{}

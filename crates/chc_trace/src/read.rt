@@ -150,7 +150,7 @@ fn trace_of_trees(alloc: Global, trees: &[Tree]) -> Result<Option<Trace>, NoMemo
     ensures { IsTraceOfTrees trees.now result }
 {
     match trees {
-        [mark, source, steps @ .., target] => { trace_of_parts(alloc, mark, source, steps, target) }
+        [mark, source, steps @ .., target] => trace_of_parts(alloc, mark, source, steps, target),
         [] | [_] | [_, _] => Ok(None),
     }
 }
