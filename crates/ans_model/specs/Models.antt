@@ -21,6 +21,7 @@ use Rattle.ans_model.specs.Bodies.{typed_of}
 use Rattle.ans_model.specs.Readings.{◌>>=◌}
 use Rattle.ans_model.specs.Scopes.{Binder, sorts_in, binders_of}
 use Rattle.ans_model.specs.Shapes.{symbol_of, group_of, is_symbol}
+pub use Rattle.ans_model.specs.declared.definition.Named.{Named}
 use Rattle.ans_model.specs.declared.typed.Typed.{Typed}
 pub use Rattle.ans_model.specs.Texts.{IsDefsText}
 
@@ -35,16 +36,14 @@ most_depth = 900
 abbrev pub is_small : Term → Bool
 is_small t = nat_lt (size t) (most_nodes + 1) && nat_lt (depth t) (most_depth + 1)
 
--- a definition and its name
-pub record Named : Type 0 where
-  pub name : List ℕ
-  pub def : Def
+-- the definition over parameters of these sorts of a body that has been read, which must be of sort Bool and within the limits
+abbrev pub closed_over : List Sort → Typed → Option Def
+closed_over sorts body =
+    cond (same_sort body.sort sort.Bool && is_small body.term) (Some (record { params = sorts; result = sort.Bool; body = body.term })) None
 
--- the definition over these parameters of a body that has been read, which must be of sort Bool and within the limits
+-- the definition over these parameters of a body
 abbrev pub body_at : List Binder → Typed → Option Def
-body_at params body =
-    cond (same_sort body.sort sort.Bool && is_small body.term)
-    (Some (record { params = sorts_in params; result = sort.Bool; body = body.term })) None
+body_at params = closed_over (sorts_in params)
 
 -- the definition over these parameters of the body that a tree stands for
 abbrev pub definition_over : Tree → List Binder → Option Def
@@ -99,10 +98,14 @@ module _ (s : StateView) (names : List (List ℕ)) where
   abbrev pub with_named : Defs → Named → Option Defs
   with_named d n = number_of names n.name >>= with_definition s d n.def
 
+  -- the definitions and that of a tree
+  abbrev pub with_tree : Defs → Tree → Option Defs
+  with_tree d t = definition_of t >>= with_named d
+
   -- these definitions, and after them those of the trees
   abbrev pub defs_after : Defs → List Tree → Option Defs
   defs_after d [] = Some d
-  defs_after d (t ∷ ts) = definition_of t >>= with_named d >>= (λ more. defs_after more ts)
+  defs_after d (t ∷ ts) = with_tree d t >>= (λ more. defs_after more ts)
 
 -- no predicate of these has a definition
 abbrev pub no_entries : List PredDecl → List (Option ℕ)
@@ -111,6 +114,11 @@ no_entries preds = map (λ _. None) preds
 -- no definitions
 abbrev pub no_definitions : StateView → Defs
 no_definitions s = record { list = []; of = no_entries s.preds }
+
+-- whether there is an entry, and it has a definition
+abbrev pub is_defined : Option (Option ℕ) → Bool
+is_defined None = false
+is_defined (Some entry) = is_some entry
 
 -- whether every live predicate has a definition
 abbrev pub are_defined : List PredDecl → List (Option ℕ) → Bool

@@ -2,6 +2,7 @@
 #![tactic(auto)]
 
 mod body;
+mod definition;
 mod names;
 mod read;
 mod scope;
