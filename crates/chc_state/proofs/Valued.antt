@@ -69,10 +69,10 @@ module _ (sig : Signature) (w : List WorldEntry) (world : IsWorld sig w) (none :
     (ts : List Term) (args : SortedArgs sig vars ts) where
   -- the arguments have at most one list of values
   pub args_once : (us vs : List Value) → EachHas (TermHas sig w) ts env us → EachHas (TermHas sig w) ts env vs → us ≡ vs
-  args_once = one_list (clause_context sig) w silent silent world none (nothing_meant sig silent silent) ts vars args.sorts args.sorted env are
+  args_once = one_list (clause_context sig) w silent silent world (nothing_meant sig silent silent) ts vars args.sorts args.sorted env are
 
   -- and have one
   pub args_valued : (us : List Value) × EachHas (TermHas sig w) ts env us
   args_valued =
-      some_list (clause_context sig) w silent silent world none (nothing_meant sig silent silent) ts vars args.sorts args.sorted env are
+      some_list (clause_context sig) w silent silent world (nothing_meant sig silent silent) ts vars args.sorts args.sorted env are none
       (nothing_to_answer sig silent silent) (plain_terms_unquantified ts args.plain)
