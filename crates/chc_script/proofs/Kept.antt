@@ -13,17 +13,16 @@ use Rattle.chc_values.specs.declared.value.Value.TheVariants as value
 use Rattle.chc_values.specs.declared.world.WorldEntry.{WorldEntry}
 use Rattle.chc_values.specs.Values.{IsOf, AreOf}
 use Rattle.chc_values.specs.Worlds.{IsWorld}
-use Rattle.chc_values.proofs.ValueSorts.{truth_value}
 use Rattle.chc_terms.specs.declared.term.Kind.TheVariants as kind
 use Rattle.chc_terms.specs.declared.term.Term.{Term}
 use Rattle.chc_terms.specs.declared.term.Term.TheVariants as term
 use Rattle.chc_terms.specs.Has.{TermHas, EachHas, AllHave, SomeHas, silent}
 use Rattle.chc_terms.specs.Laws.{Means}
 use Rattle.chc_terms.specs.Sorted.{sort_of, truth_at, when, is_plain}
+use Rattle.chc_terms.proofs.ForOthers.{one_value, some_value, same_meaning, truth_value, nothing_meant, nothing_to_answer}
 use Rattle.chc_terms.proofs.HasLaws.{Has-Lit, Has-App, Has-Pred, Has-Quant}
 use Rattle.chc_terms.proofs.SameSort.{same_sorts_itself}
 use Rattle.chc_terms.proofs.SortLaws.{sort_of-Pred}
-use Rattle.chc_terms.proofs.TermLaws.{one_value, some_value, same_meaning}
 use Rattle.chc_state.specs.declared.clause.Atom.{Atom}
 use Rattle.chc_state.specs.declared.defs.Defs.{Defs}
 use Rattle.chc_state.specs.States.{StateView}
@@ -31,7 +30,7 @@ use Rattle.chc_state.specs.Sorts.{clause_context}
 use Rattle.chc_state.specs.Meaning.{In, AtomHolds, Fires}
 use Rattle.chc_state.specs.Definitions.{PredMeans, DefMeans, HasUnder, Says, HeadHolds, IsTrueUnder, AssertTrue, Decided, Defines}
 use Rattle.chc_state.proofs.Defined.{defined_context, defined_means, Total, decided_total}
-use Rattle.chc_state.proofs.Valued.{plain_unquantified, silent_means, silent_total}
+use Rattle.chc_state.proofs.Valued.{plain_unquantified}
 use Rattle.chc_script.specs.Clauses.{ints, constraints_of, atoms_of, clause_of, atom_term, part_term, head_term, conjunction, implication, matrix_term, for_all}
 use Rattle.chc_script.specs.Assertions.{KeepsAssertions}
 use Rattle.chc_script.specs.Made.{IsPlainOf, IsAtomOver, IsPartOver, IsHeadOver, IsMade, AreMade}
@@ -250,8 +249,8 @@ module _ (s : StateView) (w : List WorldEntry) (d : Defs) (world : IsWorld s.sig
     numbers_valued [] p = record { values = []; have = tt; are_ints = tt }
     numbers_valued (t ∷ ts) p =
         let cx = clause_context s.sig in
-        let first = some_value cx w silent silent world none (silent_means s.sig) (silent_total s.sig) t (ints n) sort.Int (p.0.sorted cx) (plain_unquantified t p.0.plain) env are in
-        let of = (one_value cx w silent silent world none (silent_means s.sig) t (ints n) sort.Int (p.0.sorted cx) env are).of env are first.0 first.1 in
+        let first = some_value cx w silent silent world none (nothing_meant s.sig silent silent) (nothing_to_answer s.sig silent silent) t (ints n) sort.Int (p.0.sorted cx) (plain_unquantified t p.0.plain) env are in
+        let of = (one_value cx w silent silent world none (nothing_meant s.sig silent silent) t (ints n) sort.Int (p.0.sorted cx) env are).of env are first.0 first.1 in
         let rest = numbers_valued ts p.1 in
         record { values = first.0 ∷ rest.values; have = (first.1, rest.have); are_ints = (of, rest.are_ints) }
 
@@ -259,8 +258,8 @@ module _ (s : StateView) (w : List WorldEntry) (d : Defs) (world : IsWorld s.sig
       part_decided : (p : Part) → IsPartOver s.preds n p → Under (part_term p) env yes ⊎ Under (part_term p) env no
       part_decided (part.Constraint t) p =
           let cx = clause_context s.sig in
-          let first = some_value cx w silent silent world none (silent_means s.sig) (silent_total s.sig) t (ints n) sort.Bool (p.sorted cx) (plain_unquantified t p.plain) env are in
-          let of = (one_value cx w silent silent world none (silent_means s.sig) t (ints n) sort.Bool (p.sorted cx) env are).of env are first.0 first.1 in
+          let first = some_value cx w silent silent world none (nothing_meant s.sig silent silent) (nothing_to_answer s.sig silent silent) t (ints n) sort.Bool (p.sorted cx) (plain_unquantified t p.plain) env are in
+          let of = (one_value cx w silent silent world none (nothing_meant s.sig silent silent) t (ints n) sort.Bool (p.sorted cx) env are).of env are first.0 first.1 in
           truth_under t first.0 of (under_from t p.plain env first.0 first.1)
       part_decided (part.Atom a) p =
           let args = numbers_valued a.args p.args in
