@@ -128,11 +128,11 @@ module _ (d : Defs) (s : StateView) (names : List (List ℕ)) (owners prefix : L
       let low : k < length d.list = slice_get_within d.list k def at in
       let size : length (take k d.list) ≡ k = length-take-le k d.list (omega arith) in
       let takes : takes_sorts def.params (slice_get s.preds o.owner) ≡ true =
-            ap (takes_sorts def.params) o.declared ∙ and_from o.decl.live (same_sorts def.params o.decl.sorts) o.live (subst (λ ss. same_sorts def.params ss ≡ true) o.sorts (same_sorts_itself def.params)) in
+      ap (takes_sorts def.params) o.declared ∙ and_from o.decl.live (same_sorts def.params o.decl.sorts) o.live (subst (λ ss. same_sorts def.params ss ≡ true) o.sorts (same_sorts_itself def.params)) in
       let vacant : is_vacant (slice_get (map (below k) d.of) o.owner) ≡ true = ap is_vacant (vacant_below d.of o.owner k o.entry) in
       let both = and_from (takes_sorts def.params (slice_get s.preds o.owner)) (is_vacant (slice_get (map (below k) d.of) o.owner)) takes vacant in
       let table : slice_set (map (below k) d.of) o.owner (Some (length (take k d.list))) ≡ map (below (k + 1)) d.of =
-            ap (λ n. slice_set (map (below k) d.of) o.owner (Some n)) size ∙ set_below d.of o.owner k o.entry (λ q there. defines.apart q o.owner k there o.entry) in
+      ap (λ n. slice_set (map (below k) d.of) o.owner (Some n)) size ∙ set_below d.of o.owner k o.entry (λ q there. defines.apart q o.owner k there o.entry) in
       let list : take k d.list ++ def ∷ [] ≡ take (k + 1) d.list = next_taken d.list k def at ∙ ap (λ n. take n d.list) (sym (add-one k)) in
       ap (λ n. n >>= with_definition s (so_far k) def) (number_of_name names are o.owner o.name o.called)
       ∙ ap (λ t. cond t (Some (record { list = take k d.list ++ def ∷ []; of = slice_set (map (below k) d.of) o.owner (Some (length (take k d.list))) })) None) both
@@ -173,7 +173,7 @@ module _ (d : Defs) (s : StateView) (names : List (List ℕ)) (owners prefix : L
   left_read k def at o t ts one more = (
     ap (λ b. cond b ts (t ∷ ts)) one.0,
     ap (λ n. n >>= with_named s names (so_far k) >>= (λ e. defs_after s names e ts)) one.1
-    ∙ ap (λ n. n >>= (λ e. defs_after s names e ts)) (one_more k def at o) ∙ more.1,
+        ∙ ap (λ n. n >>= (λ e. defs_after s names e ts)) (one_more k def at o) ∙ more.1,
   )
 
   left_at : (k : ℕ) (rest : List Def) → k + length rest ≡ length d.list → ((j : ℕ) (def : Def) → slice_get rest j ≡ Some def → slice_get d.list (k + j) ≡ Some def)
@@ -189,15 +189,15 @@ module _ (d : Defs) (s : StateView) (names : List (List ℕ)) (owners prefix : L
       let rooms = line_room (name_at names (get_or owners k 0)) def more short in
       let text : List ℕ = group_text in_text marks form (context_at k) o.name def in
       let line : definition_text in_text (name_at names (get_or owners k 0)) def ≡ text ++ 10 ∷ [] =
-            ap (λ name. definition_text in_text name def) o.in_line ∙ line_is in_text marks form (context_at k) o.name def o.truth in
+      ap (λ name. definition_text in_text name def) o.in_line ∙ line_is in_text marks form (context_at k) o.name def o.truth in
       let whole : 10 ∷ (text ++ (10 ∷ more)) ≡ 10 ∷ definitions_text in_text owners k (def ∷ rest) =
-            ap (λ (t : List ℕ). 10 ∷ t) (sym (append_assoc text (10 ∷ []) more) ∙ ap (λ (t : List ℕ). t ++ more) (sym line)) in
+      ap (λ (t : List ℕ). 10 ∷ t) (sym (append_assoc text (10 ∷ []) more) ∙ ap (λ (t : List ℕ). t ++ more) (sym line)) in
       let counted : k + 1 + length rest ≡ length d.list = omega arith in
       subst (TreesAt (AreLeft k) 903 false place) whole
       (next_at (IsDefinitionOf in_text marks form (context_at k) o.name def) (AreLeft (k + 1)) (AreLeft k) 903 false place (10 ∷ []) text (10 ∷ more) refl
-        (definition_writes in_text marks form (context_at k) o.name def o.quotable (writable_at k def at o rooms.0) (place + 1) (10 ∷ more) refl)
-        (left_at (k + 1) rest counted (λ j e there. let next : k + suc j ≡ k + 1 + j = omega arith in ap (slice_get d.list) (sym next) ∙ same (suc j) e there) rooms.1 (place + 1 + length text))
-        (left_read k def at o))
+      (definition_writes in_text marks form (context_at k) o.name def o.quotable (writable_at k def at o rooms.0) (place + 1) (10 ∷ more) refl)
+      (left_at (k + 1) rest counted (λ j e there. let next : k + suc j ≡ k + 1 + j = omega arith in ap (slice_get d.list) (sym next) ∙ same (suc j) e there) rooms.1 (place + 1 + length text))
+      (left_read k def at o))
 
   -- ---- the whole text
 
@@ -238,8 +238,8 @@ module _ (d : Defs) (s : StateView) (names : List (List ℕ)) (owners prefix : L
       let count : 0 + length d.list ≡ length d.list = omega arith in
       writes_wider IsGroup IsGroup (903 + 1) 1000 (omega arith) (λ tree is. is) (40 ∷ inner ++ 41 ∷ [])
       (group_writes (AreLeft 0) IsGroup 903 inner
-        (left_at 0 d.list count (λ j def at. let here : j ≡ 0 + j = omega arith in ap (slice_get d.list) (sym here) ∙ at) short)
-        (λ place ts h. ap (λ o. o >>= defs_in s names) (group_of-Group place ts) ∙ all_read ts h))
+      (left_at 0 d.list count (λ j def at. let here : j ≡ 0 + j = omega arith in ap (slice_get d.list) (sym here) ∙ at) short)
+      (λ place ts h. ap (λ o. o >>= defs_in s names) (group_of-Group place ts) ∙ all_read ts h))
 
   -- the text of definitions says them
   pub text_says : (text : List ℕ) → text ≡ lines_of_defs in_text owners d.list → length text < 2 ^ 64 → SaysModel text s names d
@@ -251,11 +251,11 @@ module _ (d : Defs) (s : StateView) (names : List (List ℕ)) (owners prefix : L
       let kind = Begins (IsSymbolOf sat) (Begins IsGroup IsNone) in
       let whole : sat ++ (10 ∷ group ++ 10 ∷ []) ≡ text = ap (λ (t : List ℕ). codes "sat\n(\n" ++ t) (append_assoc inner (41 ∷ []) (10 ∷ [])) ∙ sym (append_assoc (codes "sat\n(\n") inner (codes ")\n")) ∙ sym e in
       let spelled = spells_from kind text (subst (TreesAt kind 1000 true 0) whole
-            (begin_at 1000 true (IsSymbolOf sat) (Begins IsGroup IsNone) 0 [] sat (10 ∷ group ++ 10 ∷ []) refl
-              (bare_writes 1000 sat refl refl 0 (10 ∷ group ++ 10 ∷ []) refl)
-              (begin_at 1000 true IsGroup IsNone 3 (10 ∷ []) group (10 ∷ []) refl
-                (group_is_written (omega arith) 4 (10 ∷ []) refl)
-                (no_more_at IsNone 1000 true (4 + length group) (10 ∷ []) refl tt)))) in
+      (begin_at 1000 true (IsSymbolOf sat) (Begins IsGroup IsNone) 0 [] sat (10 ∷ group ++ 10 ∷ []) refl
+      (bare_writes 1000 sat refl refl 0 (10 ∷ group ++ 10 ∷ []) refl)
+      (begin_at 1000 true IsGroup IsNone 3 (10 ∷ []) group (10 ∷ []) refl
+      (group_is_written (omega arith) 4 (10 ∷ []) refl)
+      (no_more_at IsNone 1000 true (4 + length group) (10 ∷ []) refl tt)))) in
       record { trees = spelled.0; spelled = spelled.1; stands = answer_read spelled.0 spelled.2 }
 
 -- what is written says the definitions

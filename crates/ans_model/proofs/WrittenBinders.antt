@@ -96,10 +96,10 @@ module _ (names : Names) (marks : ℕ) (form : names.prefix ≡ marked marks) wh
       let last = sort_text names.sig s in
       text_writes (Binds i s) 1 (40 ∷ (name ++ 32 ∷ last) ++ 41 ∷ []) (binder_text names i s) (simp append_assoc)
       (group_writes (Begins (IsSymbolOf (variable_in i)) (Begins (SaysSort s) IsNone)) (Binds i s) 0 (name ++ 32 ∷ last)
-        (λ place. begin_at 0 false (IsSymbolOf (variable_in i)) (Begins (SaysSort s) IsNone) place [] name (32 ∷ last) refl
-          (variable_in_writes 0 i small (place + 0) (32 ∷ last) refl)
-          (last_at 0 false (SaysSort s) (place + 0 + length name) (32 ∷ []) last refl (sort_writes names.sig 0 s answer)))
-        (binder_stands i s))
+      (λ place. begin_at 0 false (IsSymbolOf (variable_in i)) (Begins (SaysSort s) IsNone) place [] name (32 ∷ last) refl
+      (variable_in_writes 0 i small (place + 0) (32 ∷ last) refl)
+      (last_at 0 false (SaysSort s) (place + 0 + length name) (32 ∷ []) last refl (sort_writes names.sig 0 s answer)))
+      (binder_stands i s))
 
   -- ---- lists of binders
 
@@ -114,7 +114,7 @@ module _ (names : Names) (marks : ℕ) (form : names.prefix ≡ marked marks) wh
       → with_binder (numbered_in n prior) (record { name = variable_in i; sort = s }) ≡ Some (numbered_in n (prior ++ s ∷ []))
   one_bound n prior i s e small =
       ap (λ test. cond test None (Some (numbered_in n prior ++ record { name = variable_in i; sort = s } ∷ [])))
-        (binds_none names.prefix n prior (variable_in i) (later_foreign names.prefix n i prior (omega arith) small))
+      (binds_none names.prefix n prior (variable_in i) (later_foreign names.prefix n i prior (omega arith) small))
       ∙ ap (λ k. Some (numbered_in n prior ++ numbered_in k (s ∷ []))) e
       ∙ ap (λ (bs : List Binder). Some bs) (sym (numbered-append names.prefix n prior (s ∷ [])))
 

@@ -41,14 +41,14 @@ regrouped symbol list truth text =
     let tail : List ℕ = 32 ∷ truth ++ 32 ∷ text in
     let body : List ℕ = 32 ∷ 40 ∷ (list ++ 41 ∷ tail) in
     let flat : codes "(define-fun " ++ symbol ++ codes " (" ++ list ++ codes ") " ++ truth ++ codes " " ++ text ++ codes ")\n"
-          ≡ 40 ∷ codes "define-fun" ++ 32 ∷ (symbol ++ 32 ∷ 40 ∷ (list ++ 41 ∷ 32 ∷ (truth ++ 32 ∷ (text ++ end)))) = simp append_assoc in
+    ≡ 40 ∷ codes "define-fun" ++ 32 ∷ (symbol ++ 32 ∷ 40 ∷ (list ++ 41 ∷ 32 ∷ (truth ++ 32 ∷ (text ++ end)))) = simp append_assoc in
     let listed : (list ++ 41 ∷ tail) ++ end ≡ list ++ 41 ∷ 32 ∷ (truth ++ 32 ∷ (text ++ end)) =
-          append_assoc list (41 ∷ tail) end ∙ ap (λ (t : List ℕ). list ++ 41 ∷ 32 ∷ t) (append_assoc truth (32 ∷ text) end) in
+    append_assoc list (41 ∷ tail) end ∙ ap (λ (t : List ℕ). list ++ 41 ∷ 32 ∷ t) (append_assoc truth (32 ∷ text) end) in
     let named : (symbol ++ body) ++ end ≡ symbol ++ 32 ∷ 40 ∷ (list ++ 41 ∷ 32 ∷ (truth ++ 32 ∷ (text ++ end))) =
-          append_assoc symbol body end ∙ ap (λ (t : List ℕ). symbol ++ 32 ∷ 40 ∷ t) listed in
+    append_assoc symbol body end ∙ ap (λ (t : List ℕ). symbol ++ 32 ∷ 40 ∷ t) listed in
     let grouped : symbol ++ (32 ∷ (40 ∷ list ++ 41 ∷ []) ++ tail) ≡ symbol ++ body = ap (λ (t : List ℕ). symbol ++ 32 ∷ 40 ∷ t) (append_assoc list (41 ∷ []) tail) in
     let ended : symbol ++ (32 ∷ (40 ∷ list ++ 41 ∷ []) ++ tail) ++ 41 ∷ [] ++ 10 ∷ [] ≡ (symbol ++ body) ++ end =
-          append_assoc (symbol ++ (32 ∷ (40 ∷ list ++ 41 ∷ []) ++ tail)) (41 ∷ []) (10 ∷ []) ∙ ap (λ (t : List ℕ). t ++ end) grouped in
+    append_assoc (symbol ++ (32 ∷ (40 ∷ list ++ 41 ∷ []) ++ tail)) (41 ∷ []) (10 ∷ []) ∙ ap (λ (t : List ℕ). t ++ end) grouped in
     flat ∙ ap (λ (t : List ℕ). 40 ∷ codes "define-fun" ++ 32 ∷ t) (sym (ended ∙ named))
 
 module _ (names : Names) (marks : ℕ) (form : names.prefix ≡ marked marks) (cx : Context) where
@@ -80,7 +80,7 @@ module _ (names : Names) (marks : ℕ) (form : names.prefix ≡ marked marks) (c
   abbrev AreParts : List ℕ → Def → List Tree → Type 0
   AreParts name d =
       Begins (IsSymbolOf (codes "define-fun")) (Begins (IsSymbolOf name) (Begins (BindsAll names marks form 0 d.params)
-        (Begins (IsSymbolOf (codes "Bool")) (Begins (Reads names marks form cx d.params d.body sort.Bool) IsNone))))
+      (Begins (IsSymbolOf (codes "Bool")) (Begins (Reads names marks form cx d.params d.body sort.Bool) IsNone))))
 
   small_is : (d : Def) → IsWritable d → body_at (numbered names.prefix 0 d.params) (typed d.body sort.Bool) ≡ Some d
   small_is d w =
@@ -124,15 +124,15 @@ module _ (names : Names) (marks : ℕ) (form : names.prefix ≡ marked marks) (c
       let one = Begins (IsSymbolOf name) two in
       group_writes (AreParts name d) (IsDefinitionOf name d) 902 (head ++ (32 ∷ symbol ++ (32 ∷ list ++ (32 ∷ truth ++ (32 ∷ text)))))
       (λ place. begin_at 902 false (IsSymbolOf head) one place [] head (32 ∷ symbol ++ (32 ∷ list ++ (32 ∷ truth ++ (32 ∷ text)))) refl
-        (bare_writes 902 head refl refl (place + 0) (32 ∷ symbol ++ (32 ∷ list ++ (32 ∷ truth ++ (32 ∷ text)))) refl)
-        (begin_at 902 false (IsSymbolOf name) two (place + 0 + length head) (32 ∷ []) symbol (32 ∷ list ++ (32 ∷ truth ++ (32 ∷ text))) refl
-          (name_writes 902 name quotable (place + 0 + length head + 1) (32 ∷ list ++ (32 ∷ truth ++ (32 ∷ text))) refl)
-          (begin_at 902 false (BindsAll names marks form 0 d.params) three (place + 0 + length head + 1 + length symbol) (32 ∷ []) list (32 ∷ truth ++ (32 ∷ text)) refl
-            (writes_wider (BindsAll names marks form 0 d.params) (BindsAll names marks form 0 d.params) 2 902 (omega arith) (λ tree is. is) list
-              (binders_write names marks form 0 d.params many w.answer.params) (place + 0 + length head + 1 + length symbol + 1) (32 ∷ truth ++ (32 ∷ text)) refl)
-            (begin_at 902 false (IsSymbolOf truth) four (place + 0 + length head + 1 + length symbol + 1 + length list) (32 ∷ []) truth (32 ∷ text) refl
-              (bare_writes 902 truth refl refl (place + 0 + length head + 1 + length symbol + 1 + length list + 1) (32 ∷ text) refl)
-              (last_at 902 false last (place + 0 + length head + 1 + length symbol + 1 + length list + 1 + length truth) (32 ∷ []) text refl
-                (writes_wider last last (depth d.body + 2) 902 (omega arith) (λ tree is. is) text
-                  (term_written names marks form cx d.body d.params sort.Bool w.answer.body w.sorted w.room)))))))
+      (bare_writes 902 head refl refl (place + 0) (32 ∷ symbol ++ (32 ∷ list ++ (32 ∷ truth ++ (32 ∷ text)))) refl)
+      (begin_at 902 false (IsSymbolOf name) two (place + 0 + length head) (32 ∷ []) symbol (32 ∷ list ++ (32 ∷ truth ++ (32 ∷ text))) refl
+      (name_writes 902 name quotable (place + 0 + length head + 1) (32 ∷ list ++ (32 ∷ truth ++ (32 ∷ text))) refl)
+      (begin_at 902 false (BindsAll names marks form 0 d.params) three (place + 0 + length head + 1 + length symbol) (32 ∷ []) list (32 ∷ truth ++ (32 ∷ text)) refl
+      (writes_wider (BindsAll names marks form 0 d.params) (BindsAll names marks form 0 d.params) 2 902 (omega arith) (λ tree is. is) list
+      (binders_write names marks form 0 d.params many w.answer.params) (place + 0 + length head + 1 + length symbol + 1) (32 ∷ truth ++ (32 ∷ text)) refl)
+      (begin_at 902 false (IsSymbolOf truth) four (place + 0 + length head + 1 + length symbol + 1 + length list) (32 ∷ []) truth (32 ∷ text) refl
+      (bare_writes 902 truth refl refl (place + 0 + length head + 1 + length symbol + 1 + length list + 1) (32 ∷ text) refl)
+      (last_at 902 false last (place + 0 + length head + 1 + length symbol + 1 + length list + 1 + length truth) (32 ∷ []) text refl
+      (writes_wider last last (depth d.body + 2) 902 (omega arith) (λ tree is. is) text
+      (term_written names marks form cx d.body d.params sort.Bool w.answer.body w.sorted w.room)))))))
       (λ place ts h. (ap (is_name (codes "model")) (symbol_of-Group place ts), parts_read name d w place ts h))

@@ -93,10 +93,10 @@ module _ (prefix : List ℕ) where
       let is : t ≡ s = cc in
       rw (here, ← is)
       (found_first (variable_from (n + 1) (numbered (n + 1) ss) (variable_name n)) (bytes_eq (variable_name n) (variable_name n)) (record { term = term.Var n; sort = t })
-        (variable_none (n + 1) ss (variable_name n) (earlier_foreign (n + 1) n ss (omega arith) (omega arith))) (bytes_eq_itself (variable_name n)))
+      (variable_none (n + 1) ss (variable_name n) (earlier_foreign (n + 1) n ss (omega arith) (omega arith))) (bytes_eq_itself (variable_name n)))
   variable_found n (suc j) (t ∷ ss) s h small =
       let there : n + suc j ≡ n + 1 + j = omega arith in
       rw there
       (found_later (variable_from (n + 1) (numbered (n + 1) ss) (variable_name (n + 1 + j)))
-        (cond (bytes_eq (variable_name n) (variable_name (n + 1 + j))) (Some (record { term = term.Var n; sort = t })) None)
-        (record { term = term.Var (n + 1 + j); sort = s }) (variable_found (n + 1) j ss s h (omega arith)))
+      (cond (bytes_eq (variable_name n) (variable_name (n + 1 + j))) (Some (record { term = term.Var n; sort = t })) None)
+      (record { term = term.Var (n + 1 + j); sort = s }) (variable_found (n + 1) j ss s h (omega arith)))

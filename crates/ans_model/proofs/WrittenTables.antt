@@ -28,7 +28,7 @@ position_or_len_is test (y ∷ ys) (suc i) x h passes before =
 pub number_of_name : (names : List (List ℕ)) → AreNames names → (i : ℕ) (name : List ℕ) → slice_get names i ≡ Some name → number_of names name ≡ Some i
 number_of_name names are i name h =
     let place = position_or_len_is (bytes_eq name) names i name h (bytes_eq_itself name)
-          (λ j other low at. bytes_eq_apart name other (λ same. let e : j ≡ i = are.apart j i name (at ∙ ap Some (sym same)) h in absurd (omega arith))) in
+    (λ j other low at. bytes_eq_apart name other (λ same. let e : j ≡ i = are.apart j i name (at ∙ ap Some (sym same)) h in absurd (omega arith))) in
     ap (λ n. cond (nat_lt n (length names)) (Some n) None) place
     ∙ ap (λ t. cond t (Some i) None) (lt-ltb i (length names) (slice_get_within names i name h))
 

@@ -76,7 +76,7 @@ module _ (names : Names) (marks : ℕ) (form : names.prefix ≡ marked marks) (c
       let low : i < length vars = slice_get_within vars i s h in
       text_writes (Reads vars (Var i) s) (depth (Var i) + 2) (variable_text names i) (term_text names (Var i) (length vars)) (sym (text-Var names i (length vars)))
       (writes_wider (IsSymbolOf (variable_name names.prefix i)) (Reads vars (Var i) s) 0 (depth (Var i) + 2) (omega arith) (variable_read vars i s h (omega arith)) (variable_text names i)
-        (variable_in_writes names marks form 0 i (omega arith)))
+      (variable_in_writes names marks form 0 i (omega arith)))
 
   literal_foreign : (b : Bool) (i : ℕ) → bytes_eq (variable_name names.prefix i) (truth_text b) ≡ false
   literal_foreign true i = subst (λ (p : List ℕ). bytes_eq (variable_name p i) (codes "true") ≡ false) (sym form) refl
@@ -101,7 +101,7 @@ module _ (names : Names) (marks : ℕ) (form : names.prefix ≡ marked marks) (c
       let same : sort.Bool ≡ s = (let e = sym (sort_of-Lit cx b vars) ∙ sorted in cc) in
       text_writes (Reads vars (Lit b) s) (depth (Lit b) + 2) (truth_text b) (term_text names (Lit b) (length vars)) (sym (text-Lit names b (length vars)))
       (writes_wider (IsSymbolOf (truth_text b)) (Reads vars (Lit b) s) 0 (depth (Lit b) + 2) (omega arith)
-        (λ tree is. literal_read vars b tree is ∙ ap (λ u. Some (typed (Lit b) u)) same) (truth_text b) (literal_writes 0 b))
+      (λ tree is. literal_read vars b tree is ∙ ap (λ u. Some (typed (Lit b) u)) same) (truth_text b) (literal_writes 0 b))
 
   numeral_read : (vars : List Sort) (n : ℕ) → n < 2 ^ 127 → (tree : Tree) → IsNumeralOf n tree → Reads vars (Num (pos n)) sort.Int tree
   numeral_read vars n small tree is = ap (λ t. typed_of t (scope vars)) is.1 ∙ typed_of-Numeral is.0 n (scope vars) small
@@ -125,8 +125,8 @@ module _ (names : Names) (marks : ℕ) (form : names.prefix ≡ marked marks) (c
       let digits : List ℕ = decimal (suc n) in
       group_writes (Begins (NamesOp op.Sub) (Begins (IsNumeralOf (suc n)) IsNone)) (Reads vars (Num (negsuc n)) sort.Int) 0 (45 ∷ 32 ∷ digits)
       (λ place. begin_at 0 false (NamesOp op.Sub) (Begins (IsNumeralOf (suc n)) IsNone) place [] (codes "-") (32 ∷ digits) refl
-        (op_writes names.sig 0 op.Sub 2 refl (place + 0) (32 ∷ digits) refl)
-        (last_at 0 false (IsNumeralOf (suc n)) (place + 0 + 1) (32 ∷ []) digits refl (numeral_writes 0 (suc n) small)))
+      (op_writes names.sig 0 op.Sub 2 refl (place + 0) (32 ∷ digits) refl)
+      (last_at 0 false (IsNumeralOf (suc n)) (place + 0 + 1) (32 ∷ []) digits refl (numeral_writes 0 (suc n) small)))
       (minus_read vars n small)
 
   num_written : (n : ℤ) → IsWritten (Num n)
@@ -134,7 +134,7 @@ module _ (names : Names) (marks : ℕ) (form : names.prefix ≡ marked marks) (c
       let same : sort.Int ≡ s = (let e = sym (sort_of-Num cx n vars) ∙ sorted in cc) in
       text_writes (Reads vars (Num n) s) (depth (Num n) + 2) (number_text n) (term_text names (Num n) (length vars)) (sym (text-Num names n (length vars)))
       (writes_wider (Reads vars (Num n) sort.Int) (Reads vars (Num n) s) 1 (depth (Num n) + 2) (omega arith)
-        (λ tree is. is ∙ ap (λ u. Some (typed (Num n) u)) same) (number_text n) (number_writes vars n (sym (answer-Num n) ∙ answer)))
+      (λ tree is. is ∙ ap (λ u. Some (typed (Num n) u)) same) (number_text n) (number_writes vars n (sym (answer-Num n) ∙ answer)))
 
   -- ---- arguments and operators
 
@@ -170,7 +170,7 @@ module _ (names : Names) (marks : ℕ) (form : names.prefix ≡ marked marks) (c
       let rooms = room_for_rest vars text rest room in
       next_at (Reads vars t found.0) (ReadAll vars ts found.1) (ReadAll vars (t ∷ ts) ss) deep false place (32 ∷ []) text rest refl
       (writes_wider (Reads vars t found.0) (Reads vars t found.0) (depth t + 2) deep (omega arith) (λ tree is. is) text (ih.0 vars found.0 answers.0 found.2 rooms.0)
-        (place + 1) rest (spaced_parted (term_texts names (length vars) ts)))
+      (place + 1) rest (spaced_parted (term_texts names (length vars) ts)))
       (args_written ts ih.1 vars found.1 deep (omega arith) answers.1 found.3 rooms.1 (place + 1 + length text))
       (one_more_read vars t found.0 ts found.1 ss found.4)
 
@@ -203,11 +203,11 @@ module _ (names : Names) (marks : ℕ) (form : names.prefix ≡ marked marks) (c
       let deeper = depth-App o ts in
       text_writes (Reads vars (App o ts) s) (depth (App o ts) + 2) (40 ∷ (head ++ args) ++ 41 ∷ []) (term_text names (App o ts) (length vars)) (sym whole)
       (writes_wider (Reads vars (App o ts) s) (Reads vars (App o ts) s) (depth_all ts + 2 + 1) (depth (App o ts) + 2) (omega arith) (λ tree is. is) (40 ∷ (head ++ args) ++ 41 ∷ [])
-        (group_writes (Begins (NamesOp o) (ReadAll vars ts found.0)) (Reads vars (App o ts) s) (depth_all ts + 2) (head ++ args)
-          (λ place. begin_at (depth_all ts + 2) false (NamesOp o) (ReadAll vars ts found.0) place [] head args refl
-            (op_writes names.sig (depth_all ts + 2) o (length ts) count (place + 0) args (spaced_parted (term_texts names (length vars) ts)))
-            (args_written ts ih vars found.0 (depth_all ts + 2) (omega arith) parts.1 found.1 rooms (place + 0 + length head)))
-          (app_read o vars ts found.0 s count found.2)))
+      (group_writes (Begins (NamesOp o) (ReadAll vars ts found.0)) (Reads vars (App o ts) s) (depth_all ts + 2) (head ++ args)
+      (λ place. begin_at (depth_all ts + 2) false (NamesOp o) (ReadAll vars ts found.0) place [] head args refl
+      (op_writes names.sig (depth_all ts + 2) o (length ts) count (place + 0) args (spaced_parted (term_texts names (length vars) ts)))
+      (args_written ts ih vars found.0 (depth_all ts + 2) (omega arith) parts.1 found.1 rooms (place + 0 + length head)))
+      (app_read o vars ts found.0 s count found.2)))
 
   -- ---- quantifiers
 
@@ -263,22 +263,22 @@ module _ (names : Names) (marks : ℕ) (form : names.prefix ≡ marked marks) (c
       let rooms : HasRoom (vars ++ sorts) text = room_for_body k vars sorts text (subst (HasRoom vars) whole room) in
       let small : length vars + length sorts ≤ 2 ^ 64 = omega arith in
       let writes : Writes (Reads (vars ++ sorts) t found.0) (depth t + 2) text =
-          subst (λ (u : ℕ). Writes (Reads (vars ++ sorts) t found.0) (depth t + 2) (term_text names t u)) together
-            (ih (vars ++ sorts) found.0 parts.1 found.1 (subst (λ (u : ℕ). HasRoom (vars ++ sorts) (term_text names t u)) (sym together) rooms)) in
+      subst (λ (u : ℕ). Writes (Reads (vars ++ sorts) t found.0) (depth t + 2) (term_text names t u)) together
+      (ih (vars ++ sorts) found.0 parts.1 found.1 (subst (λ (u : ℕ). HasRoom (vars ++ sorts) (term_text names t u)) (sym together) rooms)) in
       let deeper = depth-Quant k sorts t in
       let deep : ℕ = depth t + 2 in
       text_writes (Reads vars (Quant k sorts t) s) (depth (Quant k sorts t) + 2) (40 ∷ (word ++ (32 ∷ list ++ 32 ∷ text)) ++ 41 ∷ []) (term_text names (Quant k sorts t) (length vars))
       (quantifier_is k (length vars) sorts text ∙ sym whole)
       (writes_wider (Reads vars (Quant k sorts t) s) (Reads vars (Quant k sorts t) s) (deep + 1) (depth (Quant k sorts t) + 2) (omega arith) (λ tree is. is)
-        (40 ∷ (word ++ (32 ∷ list ++ 32 ∷ text)) ++ 41 ∷ [])
-        (group_writes (IsQuantified k vars sorts t found.0) (Reads vars (Quant k sorts t) s) deep (word ++ (32 ∷ list ++ 32 ∷ text))
-          (λ place. begin_at deep false (SaysKind k) (Begins (BindsAll names marks form (length vars) sorts) (Begins (Reads (vars ++ sorts) t found.0) IsNone)) place [] word (32 ∷ list ++ 32 ∷ text) refl
-            (kind_writes deep k (place + 0) (32 ∷ list ++ 32 ∷ text) refl)
-            (begin_at deep false (BindsAll names marks form (length vars) sorts) (Begins (Reads (vars ++ sorts) t found.0) IsNone) (place + 0 + length word) (32 ∷ []) list (32 ∷ text) refl
-              (writes_wider (BindsAll names marks form (length vars) sorts) (BindsAll names marks form (length vars) sorts) 2 deep (omega arith) (λ tree is. is) list
-                (binders_write names marks form (length vars) sorts small (answers_of_bound sorts parts.0)) (place + 0 + length word + 1) (32 ∷ text) refl)
-              (last_at deep false (Reads (vars ++ sorts) t found.0) (place + 0 + length word + 1 + length list) (32 ∷ []) text refl writes)))
-          (quant_read k vars sorts t found.0 s found.2)))
+      (40 ∷ (word ++ (32 ∷ list ++ 32 ∷ text)) ++ 41 ∷ [])
+      (group_writes (IsQuantified k vars sorts t found.0) (Reads vars (Quant k sorts t) s) deep (word ++ (32 ∷ list ++ 32 ∷ text))
+      (λ place. begin_at deep false (SaysKind k) (Begins (BindsAll names marks form (length vars) sorts) (Begins (Reads (vars ++ sorts) t found.0) IsNone)) place [] word (32 ∷ list ++ 32 ∷ text) refl
+      (kind_writes deep k (place + 0) (32 ∷ list ++ 32 ∷ text) refl)
+      (begin_at deep false (BindsAll names marks form (length vars) sorts) (Begins (Reads (vars ++ sorts) t found.0) IsNone) (place + 0 + length word) (32 ∷ []) list (32 ∷ text) refl
+      (writes_wider (BindsAll names marks form (length vars) sorts) (BindsAll names marks form (length vars) sorts) 2 deep (omega arith) (λ tree is. is) list
+      (binders_write names marks form (length vars) sorts small (answers_of_bound sorts parts.0)) (place + 0 + length word + 1) (32 ∷ text) refl)
+      (last_at deep false (Reads (vars ++ sorts) t found.0) (place + 0 + length word + 1 + length list) (32 ∷ []) text refl writes)))
+      (quant_read k vars sorts t found.0 s found.2)))
 
   -- ---- all terms
 

@@ -35,7 +35,7 @@ module _ (deep : ℕ) (ends : Bool) where
   last_at last place gap text blank writes =
       subst (TreesAt (Begins last IsNone) deep ends place) (append-nil (gap ++ text))
       (begin_at last IsNone place gap text [] blank (writes (place + length gap) [] refl)
-        (no_more_at IsNone deep ends (place + length gap + length text) [] refl tt))
+      (no_more_at IsNone deep ends (place + length gap + length text) [] refl tt))
 
 -- trees between parentheses
 pub group_writes : (inside : List Tree → Type 0) (kind : Tree → Type 0) (deep : ℕ) (inner : List ℕ) → ((place : ℕ) → TreesAt inside deep false place inner)

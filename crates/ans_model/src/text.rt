@@ -31,12 +31,7 @@ fn owners_of(alloc: Global, d: &Defs) -> Result<Vec<usize>, NoMemory>
 }
 
 /// Writes the definition of a name up to its body.
-fn write_signature(
-    out: &mut ByteText,
-    names: &Naming,
-    name: &[u8],
-    d: &Def,
-) -> Result<(), NoMemory>
+fn write_signature(out: &mut ByteText, names: &Naming, name: &[u8], d: &Def) -> Result<(), NoMemory>
     ensures text { OnOk result (out.new ≡ out.old ++ signature_text names.now name.now d.now) }
     ensures room { OnOk result (length d.now.params ≤ length out.new) }
 {
@@ -100,12 +95,7 @@ fn text_of(
 }
 
 /// The text of definitions, with variables named beside the names in use.
-fn text_beside(
-    alloc: Global,
-    d: &Defs,
-    s: &State,
-    names: &List<Name>,
-) -> Result<ByteText, NoMemory>
+fn text_beside(alloc: Global, d: &Defs, s: &State, names: &List<Name>) -> Result<ByteText, NoMemory>
     requires plain { s.now.sig.datatypes ≡ [] }
     requires defines { Defines d.now s.now }
     requires answer { IsAnswer d.now }
