@@ -12,9 +12,14 @@ pub mod WrittenTables
 pub mod WrittenDefs
 pub mod WrittenAnswers
 pub mod Apart
+pub mod Entries
+pub mod Lengths
+pub mod Outcomes
 pub mod Reading
 pub mod Room
 pub mod Scoping
+pub mod Sorting
+pub mod Sound
 pub mod SortTests
 pub mod Tables
 pub mod TypedLaws

@@ -16,6 +16,7 @@ use Rattle.ans_model.specs.Readings.{◌>>=◌}
 use Rattle.ans_model.specs.Scopes.{Binder, binder_of, binders_after, binders_of, flat, with_binder, with_binder_of}
 use Rattle.ans_model.specs.Shapes.{group_at, group_of, symbol_of, word_of}
 use Rattle.ans_model.specs.declared.typed.Typed.{Typed}
+use Rattle.ans_model.proofs.Outcomes.{bind_some}
 use Rattle.ans_model.proofs.Scoping.{flat-append}
 use Rattle.ans_model.proofs.TypedLaws.{count-Group}
 
@@ -74,9 +75,14 @@ count_two (a ∷ b ∷ rest) s t lt e f =
     let second = count_at rest 0 t (omega arith) f in
     omega arith
 
-bind_some : {A B : Type 0} (o : Option A) (f : A → Option B) (y : B) → (o >>= f) ≡ Some y → (x : A) × (o ≡ Some x) × (f x ≡ Some y)
-bind_some None f y h = cc
-bind_some (Some x) f y h = (x, refl, h)
+pub count_parts : (trees : List Tree) (s t : Tree) → 4 < length trees → s ≡ get_or trees 2 s → t ≡ get_or trees 4 t → count s + count t ≤ count_all trees
+count_parts [] s t lt e f = absurd (omega arith)
+count_parts (a ∷ []) s t lt e f = absurd (omega arith)
+count_parts (a ∷ b ∷ []) s t lt e f = absurd (omega arith)
+count_parts (a ∷ b ∷ c ∷ rest) s t lt e f =
+    let first = ap count e in
+    let second = count_at rest 1 t (omega arith) f in
+    omega arith
 
 with_length : (b : Bool) (met : List Binder) (x : Binder) (more : List Binder) → cond b None (Some (met ++ x ∷ [])) ≡ Some more → length more ≡ length met + 1
 with_length true met x more h = cc
@@ -121,12 +127,38 @@ binders_room = tree_ind (λ t. (bs : List Binder) → binders_of t ≡ Some bs �
   group = λ place inner held bs h. group_binders place inner bs h;
 })
 
+inner_none : (t : Tree) (inner : List Tree) → group_of t ≡ None → group_of t ≡ Some inner → count_all inner ≤ count t
+inner_none t inner none h = absurd (differ (sym none ∙ h))
+  where
+    differ : None ≡ Some inner → ⊥
+    differ e = cc
+
+inner_group : (place : ℕ) (ts inner : List Tree) → group_of (Group place ts) ≡ Some inner → count_all inner ≤ count (Group place ts)
+inner_group place ts inner h =
+    let e = count-Group place ts in
+    let opened : Some ts ≡ Some inner = sym (ap group_at (outs-Group place ts)) ∙ h in
+    let same : ts ≡ inner = cc in
+    let all : count_all ts ≡ count_all inner = ap (λ l. count_all l) same in
+    omega arith
+
+-- the trees in a group are no more than those that it is made of
+pub count_inner : (t : Tree) (inner : List Tree) → group_of t ≡ Some inner → count_all inner ≤ count t
+count_inner = tree_ind (λ t. (inner : List Tree) → group_of t ≡ Some inner → count_all inner ≤ count t) (record {
+  symbol = λ place bytes inner h. inner_none (Symbol place bytes) inner (ap group_at (outs-Symbol place bytes)) h;
+  word = λ place bytes inner h. inner_none (Word place bytes) inner (ap group_at (outs-Word place bytes)) h;
+  keyword = λ place bytes inner h. inner_none (Keyword place bytes) inner (ap group_at (outs-Keyword place bytes)) h;
+  numeral = λ place number inner h. inner_none (Numeral place number) inner (ap group_at (outs-Numeral place number)) h;
+  text = λ place bytes inner h. inner_none (Text place bytes) inner (ap group_at (outs-Text place bytes)) h;
+  other = λ place bytes inner h. inner_none (Other place bytes) inner (ap group_at (outs-Other place bytes)) h;
+  group = λ place ts held inner h. inner_group place ts inner h;
+})
+
 -- readings beside their trees, all in one scope
 each_reading : (trees : List Tree) (scope : List Binder) → map (λ (reading : Reading). reading scope) (map (λ (t : Tree × Reading). t.1) (beside trees)) ≡ map (λ t. typed_of t scope) trees
 each_reading [] scope = refl
 each_reading (t ∷ ts) scope = ap (λ l. typed_of t scope ∷ l) (each_reading ts scope)
 
-application_all : (o : Op) (trees : List Tree) (scope : List Binder) → application o (map (λ (t : Tree × Reading). t.1) (beside trees)) scope ≡ (typed_all trees scope >>= applied o)
+pub application_all : (o : Op) (trees : List Tree) (scope : List Binder) → application o (map (λ (t : Tree × Reading). t.1) (beside trees)) scope ≡ (typed_all trees scope >>= applied o)
 application_all o trees scope = ap (λ (l : List (Option Typed)). all_some l >>= applied o) (each_reading trees scope)
 
 -- an operator that isn't a negation

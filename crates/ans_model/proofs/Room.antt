@@ -4,7 +4,8 @@ use Rattle.chc_sexpr.specs.declared.tree.Tree.{Tree}
 use Rattle.chc_sexpr.specs.declared.tree.Tree.TheVariants.{Group}
 use Rattle.ans_model.specs.Counts.{count, count_all, HasRoom}
 use Rattle.ans_model.specs.Scopes.{Binder, binders_of, flat}
-use Rattle.ans_model.proofs.Reading.{length-push, count_at, count_two, binders_room}
+use Rattle.ans_model.specs.Shapes.{group_of}
+use Rattle.ans_model.proofs.Reading.{length-push, count_at, count_two, binders_room, count_inner, count_parts}
 use Rattle.ans_model.proofs.TypedLaws.{count-Group}
 
 -- for the trees of a group
@@ -35,5 +36,28 @@ room_under now scope bs n room pushed =
     let long = ap (λ (s : List (List Binder)). length (flat s)) pushed ∙ length-push scope bs in
     record { fits = omega (arith, room.fits) }
 
--- what is asked of room
-pub ruleset room = (room_group, room_one, room_body, room_under)
+-- under the parameters of a definition
+pub room_params : (params body : Tree) (o : Option (List Binder)) (bs : List Binder) → HasRoom (count params) (count body) → o ≡ binders_of params → o ≡ Some bs → HasRoom (length bs) (count body)
+room_params params body o bs room read is =
+    let few = binders_room params bs (sym read ∙ is) in
+    record { fits = omega (arith, room.fits) }
+
+-- for the trees in the second of two
+pub room_inner : (trees : List Tree) (group : Tree) (inner : List Tree) → HasRoom 0 (count_all trees) → 1 < length trees → group ≡ get_or trees 1 group → group_of group ≡ Some inner → HasRoom 0 (count_all inner)
+room_inner trees group inner room long e is =
+    let one = count_at trees 1 group long e in
+    let few = count_inner group inner is in
+    record { fits = omega (arith, room.fits) }
+
+-- for one of the trees, where there is no variable yet
+pub room_tree : (trees : List Tree) (i : ℕ) (t : Tree) → HasRoom 0 (count_all trees) → i < length trees → t ≡ get_or trees i t → HasRoom 0 (count t)
+room_tree trees i t room lt e =
+    let one = count_at trees i t lt e in
+    record { fits = omega (arith, room.fits) }
+
+-- for the parameters and the body of a definition
+pub room_parts : (tree : Tree) (trees : List Tree) (params body : Tree) → HasRoom 0 (count tree) → group_of tree ≡ Some trees → 4 < length trees → params ≡ get_or trees 2 params → body ≡ get_or trees 4 body → HasRoom (count params) (count body)
+room_parts tree trees params body room is long e f =
+    let few = count_inner tree trees is in
+    let both = count_parts trees params body long e f in
+    record { fits = omega (arith, room.fits) }

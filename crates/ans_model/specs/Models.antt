@@ -120,11 +120,15 @@ abbrev pub is_defined : Option (Option ℕ) → Bool
 is_defined None = false
 is_defined (Some entry) = is_some entry
 
+-- whether a predicate has a definition, where it is live
+abbrev pub is_settled : PredDecl → Option (Option ℕ) → Bool
+is_settled p entry = not p.live || is_defined entry
+
 -- whether every live predicate has a definition
 abbrev pub are_defined : List PredDecl → List (Option ℕ) → Bool
 are_defined [] of = true
-are_defined (p ∷ ps) [] = false
-are_defined (p ∷ ps) (o ∷ os) = (not p.live || is_some o) && are_defined ps os
+are_defined (p ∷ ps) [] = is_settled p None && are_defined ps []
+are_defined (p ∷ ps) (o ∷ os) = is_settled p (Some o) && are_defined ps os
 
 -- the definitions, where none is lacking
 abbrev pub complete : StateView → Defs → Option Defs

@@ -1,7 +1,6 @@
 -- The shapes of trees: symbols, reserved words, numerals and groups.
-use Rattle.std.specs.Prelude.{ℕ, ℤ, Bool, false, cond, List, Option, Some, None}
+use Rattle.std.specs.Prelude.{ℕ, ◌^◌, ℤ, pos, negsuc, Bool, false, cond, nat_lt, List, Option, Some, None}
 use Rattle.std.specs.Str.{bytes_eq}
-use Rattle.chc_sexpr.specs.Tokens.{is_numeral_value}
 use Rattle.chc_sexpr.specs.declared.tree.Tree.{Tree, out-Tree}
 use Rattle.chc_sexpr.specs.declared.tree.Tree.TheOpen.{Tree-F}
 
@@ -32,6 +31,11 @@ word_at (Tree-F.Group place trees) = None
 -- a reserved word
 abbrev pub word_of : Tree → Option (List ℕ)
 word_of tree = word_at (out-Tree tree)
+
+-- whether a numeral may stand for the number: 0 to 2^127 - 1
+abbrev pub is_numeral_value : ℤ → Bool
+is_numeral_value (pos n) = nat_lt n (2 ^ 127)
+is_numeral_value (negsuc n) = false
 
 -- a number that a numeral may stand for
 abbrev pub numeral_value : ℤ → Option ℤ

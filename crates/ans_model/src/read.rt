@@ -4,7 +4,7 @@ ghost use Rattle.std.specs.Prelude.{◌≡◌, ◌<◌, ◌^◌, length, slice_g
 ghost use Rattle.chc_sexpr.specs.Names.{AreNames};
 ghost use Rattle.chc_state.specs.Definitions.{Defines};
 ghost use Rattle.ans_model.specs.Counts.{count, count_all, HasRoom};
-ghost use Rattle.ans_model.specs.Models.{are_defined, complete, is_defined, defs_after, defs_in, defs_of, is_vacant, no_definitions, no_entries, takes_sorts, with_definition, with_named, with_tree, without_model, IsModelReading, IsAnswer};
+ghost use Rattle.ans_model.specs.Models.{are_defined, complete, is_defined, is_settled, defs_after, defs_in, defs_of, is_vacant, no_definitions, no_entries, takes_sorts, with_definition, with_named, with_tree, without_model, IsModelReading, IsAnswer};
 ghost use Rattle.ans_model.specs.Readings.{Gives};
 
 use crate::definition::{Named, read_definition};
@@ -18,7 +18,7 @@ use std::alloc::Global;
 
 /// Whether there is such a predicate, live and on positions of these sorts.
 fn takes_sorts(sorts: &[Sort], decl: Option<&PredDecl>) -> bool
-    ensures { result ≡ takes_sorts sorts.now (option_copied decl) }
+    ensures { result ≡ takes_sorts sorts.now (option_copied decl.entry) }
 {
     match decl {
         Some(decl) => decl.live && same_sorts(sorts, decl.sorts.as_slice()),
@@ -28,7 +28,7 @@ fn takes_sorts(sorts: &[Sort], decl: Option<&PredDecl>) -> bool
 
 /// Whether a predicate's entry is there and has no definition yet.
 fn is_vacant(entry: Option<&Option<u64>>) -> bool
-    ensures { result ≡ is_vacant (option_copied entry) }
+    ensures { result ≡ is_vacant (option_copied entry.entry) }
 {
     match entry {
         Some(entry) => entry.is_none(),
@@ -136,12 +136,19 @@ fn is_defined(of: &[Option<u64>], pred: usize) -> bool
     }
 }
 
+/// Whether the predicate of that number has a definition, where it is live.
+fn is_settled(pred: &PredDecl, of: &[Option<u64>], number: usize) -> bool
+    ensures { result ≡ is_settled pred.now (slice_get of.now number) }
+{
+    !pred.live || is_defined(of, number)
+}
+
 /// Whether every live predicate has a definition.
 fn are_defined(preds: &[PredDecl], of: &[Option<u64>]) -> bool
     ensures { result ≡ are_defined preds.now of.now }
 {
     for (i, pred) in preds.iter().enumerate() {
-        if pred.live && !is_defined(of, i) {
+        if !is_settled(pred, of, i) {
             return false;
         }
     }

@@ -1,6 +1,6 @@
-use Rattle.std.proofs.Common.{◌≡◌, take}
+use Rattle.std.proofs.Common.{◌≡◌, ◌++◌, drop}
 use Rattle.ans_model.specs.Models.{no_entries}
 use Rattle.ans_model.proofs.read.no_entries.Given as goal
 
-abbrev pub invariant-loop-_pred : goal.invariant-loop-_pred
-invariant-loop-_pred l = l.of ≡ no_entries (take l._pred-index l.preds)
+abbrev pub invariant-loop-pred : goal.invariant-loop-pred
+invariant-loop-pred l = l.of ++ no_entries (drop l._pred-index l.preds) ≡ no_entries l.preds
