@@ -1,5 +1,5 @@
 -- Operators and quantifiers are written as heads that are read again.
-use Rattle.std.proofs.Common.{◌≡◌, ◌∙◌, ap, refl, ℕ, true, List, [], ◌∷◌, length, map, Some, None, codes, arith}
+use Rattle.std.proofs.Common.{◌≡◌, ◌∙◌, ap, refl, ℕ, true, List, [], ◌∷◌, length, map, Option, Some, None, codes, arith}
 use Rattle.std.specs.Prelude.{IsTrue, not}
 use Rattle.std.proofs.lemmas.Bool.{false≢true}
 use Rattle.chc_sorts.specs.Signature.{Signature, no_datatypes}
@@ -13,7 +13,8 @@ use Rattle.chc_terms.specs.Sorted.{op_sort}
 use Rattle.chc_terms.specs.declared.term.Kind.{Kind}
 use Rattle.chc_terms.specs.declared.term.Kind.TheVariants as kind
 use Rattle.chc_print.specs.Texts.{op_text, kind_text}
-use Rattle.ans_model.specs.Bodies.{Reading, op_named, operation, application, kind_of}
+use Rattle.ans_model.specs.Bodies.{Reading, operation, application, headed, kind_of}
+use Rattle.ans_model.specs.Scopes.{Binder}
 use Rattle.ans_model.specs.Models.{is_answer_op}
 use Rattle.ans_model.specs.Shapes.{symbol_of, word_of}
 use Rattle.ans_model.proofs.WrittenForms.{symbol_of-Word, word_of-Word}
@@ -21,24 +22,28 @@ use Rattle.ans_model.proofs.WrittenNames.{IsSymbolOf, IsWordOf, bare_writes, wor
 use Rattle.ans_model.proofs.WrittenBinders.{symbol_named}
 use Rattle.ans_model.proofs.WrittenTrees.{writes_wider}
 
+-- a group with that name first is the operator on the others
+abbrev pub HeadsOp : Op → List ℕ → Type 0
+HeadsOp o name = (word : Option (List ℕ)) (args : List (Tree × Reading)) (scope : List Binder) → headed (Some name) word args scope ≡ operation o args scope
+
 -- the tree names the operator
 abbrev pub NamesOp : Op → Tree → Type 0
-NamesOp o tree = (name : List ℕ) × (symbol_of tree ≡ Some name) × (op_named name ≡ Some o)
+NamesOp o tree = (name : List ℕ) × (symbol_of tree ≡ Some name) × HeadsOp o name
 
-op_writes_as : (deep : ℕ) (name : List ℕ) (o : Op) → IsTrue (is_simple_symbol name) → IsTrue (not (is_reserved name)) → op_named name ≡ Some o → Writes (NamesOp o) deep name
+op_writes_as : (deep : ℕ) (name : List ℕ) (o : Op) → IsTrue (is_simple_symbol name) → IsTrue (not (is_reserved name)) → HeadsOp o name → Writes (NamesOp o) deep name
 op_writes_as deep name o simple free named =
     writes_wider (IsSymbolOf name) (NamesOp o) deep deep (omega arith) (λ tree is. (name, symbol_named name tree is, named)) name (bare_writes deep name simple free)
 
 -- an operator of answers is written as its name
 pub op_writes : (sig : Signature) (deep : ℕ) (o : Op) (n : ℕ) → is_answer_op o n ≡ true → Writes (NamesOp o) deep (op_text sig o)
-op_writes sig deep op.Not n h = op_writes_as deep (codes "not") op.Not refl refl refl
-op_writes sig deep op.And n h = op_writes_as deep (codes "and") op.And refl refl refl
-op_writes sig deep op.Or n h = op_writes_as deep (codes "or") op.Or refl refl refl
-op_writes sig deep op.Eq n h = op_writes_as deep (codes "=") op.Eq refl refl refl
-op_writes sig deep op.Add n h = op_writes_as deep (codes "+") op.Add refl refl refl
-op_writes sig deep op.Sub n h = op_writes_as deep (codes "-") op.Sub refl refl refl
-op_writes sig deep op.Le n h = op_writes_as deep (codes "<=") op.Le refl refl refl
-op_writes sig deep op.Lt n h = op_writes_as deep (codes "<") op.Lt refl refl refl
+op_writes sig deep op.Not n h = op_writes_as deep (codes "not") op.Not refl refl (λ word args scope. refl)
+op_writes sig deep op.And n h = op_writes_as deep (codes "and") op.And refl refl (λ word args scope. refl)
+op_writes sig deep op.Or n h = op_writes_as deep (codes "or") op.Or refl refl (λ word args scope. refl)
+op_writes sig deep op.Eq n h = op_writes_as deep (codes "=") op.Eq refl refl (λ word args scope. refl)
+op_writes sig deep op.Add n h = op_writes_as deep (codes "+") op.Add refl refl (λ word args scope. refl)
+op_writes sig deep op.Sub n h = op_writes_as deep (codes "-") op.Sub refl refl (λ word args scope. refl)
+op_writes sig deep op.Le n h = op_writes_as deep (codes "<=") op.Le refl refl (λ word args scope. refl)
+op_writes sig deep op.Lt n h = op_writes_as deep (codes "<") op.Lt refl refl (λ word args scope. refl)
 op_writes sig deep o n h = absurd (false≢true h)
 
 -- it has arguments

@@ -7,7 +7,7 @@ use Rattle.chc_sexpr.specs.declared.tree.Tree.TheVariants.{Group}
 use Rattle.chc_terms.specs.declared.term.Kind.{Kind}
 use Rattle.chc_terms.specs.declared.term.Term.{Term}
 use Rattle.chc_terms.specs.Sorted.{quantifier_sort}
-use Rattle.ans_model.specs.Bodies.{Reading, operation, named_term, quantification, headed, typed_of}
+use Rattle.ans_model.specs.Bodies.{Reading, operation, quantification, headed, beside, typed_of}
 use Rattle.ans_model.specs.Readings.{◌>>=◌}
 use Rattle.ans_model.specs.Scopes.{Binder}
 use Rattle.ans_model.specs.Shapes.{symbol_of, word_of}
@@ -52,11 +52,7 @@ body_sort (t ∷ sorts) None s h = absurd (nothing h)
     nothing e = cc
 body_sort (t ∷ sorts) (Some b) s h = (b, refl, h)
 
--- trees beside their readings
-abbrev pub beside : List Tree → List (Tree × Reading)
-beside trees = map (λ (t : Tree). (t, typed_of t)) trees
-
--- and what those give
+-- what the readings beside trees give
 pub readings_of : (trees : List Tree) (scope : List Binder)
     → map (λ (r : Reading). r scope) (map (λ (t : Tree × Reading). t.1) (beside trees)) ≡ map (λ (t : Tree). typed_of t scope) trees
 readings_of [] scope = refl
@@ -75,7 +71,7 @@ headed_of place head args scope = typed_of-Group place (head ∷ args) scope
 pub operation_of : (o : Op) (place : ℕ) (head : Tree) (args : List Tree) (scope : List Binder) → NamesOp o head
     → typed_of (Group place (head ∷ args)) scope ≡ operation o (beside args) scope
 operation_of o place head args scope named =
-    headed_of place head args scope ∙ (λ i. headed (named.1 i) (word_of head) (beside args) scope) ∙ (λ i. named_term (named.2 i) named.0 (beside args) scope)
+    headed_of place head args scope ∙ (λ i. headed (named.1 i) (word_of head) (beside args) scope) ∙ named.2 (word_of head) (beside args) scope
 
 -- behind a quantifier's word
 pub quantification_of : (k : Kind) (place : ℕ) (head : Tree) (args : List Tree) (scope : List Binder) → SaysKind k head

@@ -27,7 +27,7 @@ use Rattle.chc_print.specs.Prefix.{marked}
 use Rattle.chc_print.specs.Texts.{Names, spaced, joined, number_text, truth_text, op_text, kind_text, variable_text, binder_texts, quantified, term_text, term_texts}
 use Rattle.chc_print.proofs.Room.{binders_joined}
 use Rattle.ans_model.specs.Bodies as body
-use Rattle.ans_model.specs.Bodies.{Reading, number, literal_of, symbol_term, op_named, operation, application, negation, named_term, quantification, headed, kind_of, typed_of}
+use Rattle.ans_model.specs.Bodies.{beside, literal_of, negation, typed_of}
 use Rattle.ans_model.specs.Models.{is_answer_sort, is_answer_op, is_answer_number, are_bound_sorts, is_answer_term}
 use Rattle.ans_model.specs.Readings.{◌>>=◌}
 use Rattle.ans_model.specs.Scopes.{Binder, variable_of}
@@ -40,7 +40,7 @@ use Rattle.ans_model.proofs.WrittenTrees.{IsNone, Begins, writes_wider, text_wri
 use Rattle.ans_model.proofs.WrittenBinders.{spaced_parted, numbered_in, variable_in_writes, BindsAll, binders_write}
 use Rattle.ans_model.proofs.WrittenOps.{NamesOp, op_writes, op_takes_some, op_sort_plain, operation_plain, SaysKind, kind_writes}
 use Rattle.ans_model.proofs.WrittenTexts.{text-Var, text-Num, text-Lit, text-App, text-Quant, answer-Num, answer-App, answer-Pred, answer-Quant, answer-Call}
-use Rattle.ans_model.proofs.WrittenReadings.{typed, both_some, argument_sorts, body_sort, beside, readings_of, length-beside, operation_of, quantification_of}
+use Rattle.ans_model.proofs.WrittenReadings.{typed, both_some, argument_sorts, body_sort, readings_of, length-beside, operation_of, quantification_of}
 
 module _ (names : Names) (marks : ℕ) (form : names.prefix ≡ marked marks) (cx : Context) where
   -- the variables of these sorts

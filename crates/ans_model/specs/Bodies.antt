@@ -91,25 +91,9 @@ quantification k (binders ∷ []) scope = None
 quantification k (binders ∷ body ∷ []) scope = binders_of binders.0 >>= (λ bs. body.1 (scope ++ bs) >>= quantified k bs)
 quantification k (a ∷ b ∷ c ∷ more) scope = None
 
--- the operator of a name that is read with its two sides exchanged
-abbrev pub turned_named : List ℕ → Option Op
-turned_named name = cond (bytes_eq name (codes ">=")) (Some op.Le) (cond (bytes_eq name (codes ">")) (Some op.Lt) None)
-
--- an operator on two trees, the second one first
-abbrev pub turned : Op → List (Tree × Reading) → Reading
-turned o [] scope = None
-turned o (a ∷ []) scope = None
-turned o (a ∷ b ∷ []) scope = application o (b.1 ∷ a.1 ∷ []) scope
-turned o (a ∷ b ∷ c ∷ more) scope = None
-
--- the term of an operator's name on trees
-abbrev pub named_term : Option Op → List ℕ → List (Tree × Reading) → Reading
-named_term None name args scope = turned_named name >>= (λ o. turned o args scope)
-named_term (Some o) name args scope = operation o args scope
-
 -- the term of a group by its head, which is an operator's name or a quantifier's word
 abbrev pub headed : Option (List ℕ) → Option (List ℕ) → List (Tree × Reading) → Reading
-headed (Some name) word args scope = named_term (op_named name) name args scope
+headed (Some name) word args scope = op_named name >>= (λ o. operation o args scope)
 headed None (Some word) args scope = kind_of word >>= (λ k. quantification k args scope)
 headed None None args scope = None
 
