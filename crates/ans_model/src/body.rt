@@ -97,11 +97,7 @@ fn kind_of(word: &[u8]) -> Option<Kind>
 }
 
 /// What a lone symbol stands for: the innermost variable of the name, else `true` or `false`.
-fn read_symbol(
-    alloc: Global,
-    scope: &[Binders],
-    name: &[u8],
-) -> Result<Option<Typed>, NoMemory>
+fn read_symbol(alloc: Global, scope: &[Binders], name: &[u8]) -> Result<Option<Typed>, NoMemory>
     requires { length (flat scope.now) < 2 ^ 32 }
     ensures { Gives result (symbol_term name.now (flat scope.now)) }
 {
@@ -122,9 +118,7 @@ fn are_numbers(args: &[Typed]) -> bool
     ensures { result ≡ same_sorts (map (λ t. t.sort) args.now) (sort_int ∷ sort_int ∷ []) }
 {
     match args {
-        [left, right] => {
-            same_sort(&left.sort, &Sort::Int) && same_sort(&right.sort, &Sort::Int)
-        }
+        [left, right] => { same_sort(&left.sort, &Sort::Int) && same_sort(&right.sort, &Sort::Int) }
         [] | [_] | [_, _, _, ..] => false,
     }
 }

@@ -13,3 +13,6 @@ mod typed;
 
 pub use read::read_defs;
 pub use text::defs_text;
+
+#[cfg(test)]
+mod tests;

@@ -51,12 +51,7 @@ fn with_definition(s: &State, d: Defs, def: Def, pred: usize) -> Result<Option<D
 }
 
 /// The definitions and one more, which is that of the predicate of its name.
-fn with_named(
-    s: &State,
-    names: &NameTable,
-    d: Defs,
-    named: Named,
-) -> Result<Option<Defs>, NoMemory>
+fn with_named(s: &State, names: &NameTable, d: Defs, named: Named) -> Result<Option<Defs>, NoMemory>
     ensures { Gives result (with_named s.now names.now d named) }
 {
     let Named { name, def } = named;

@@ -36,7 +36,7 @@ returns-in_err-number-clause-value c =
     let view : binders_with names sorts ≡ c.args.self.now = search rules in
     let none : list_any (bytes_eq c.args.name.now) names ≡ false = sym c.in_err-number.ensures.found in
     let free : binds c.args.self.now c.args.name.now ≡ false =
-      ap (λ (l : List Binder). binds l c.args.name.now) (sym view) ∙ sym (binds_with names sorts c.args.name.now c.self.invariant.0) ∙ none in
+    ap (λ (l : List Binder). binds l c.args.name.now) (sym view) ∙ sym (binds_with names sorts c.args.name.now c.self.invariant.0) ∙ none in
     rw c.from_residual.ensures (λ n. unbound c.args.self.now c.args.name.now n free)
 
 pub returns-in_err-sort-clause-value : goal.returns-in_err-sort-clause-value
