@@ -1,4 +1,6 @@
-//! The program `chc`: a normaliser of constrained Horn clauses. All work is done by `run`.
+//! The program `chc`: a normaliser of constrained Horn clauses, which carries models of the simplified script
+//! back to the script. `chc normalise SCRIPT OUT TRACE` simplifies a script, and `chc lift SCRIPT TRACE ANSWER OUT`
+//! makes a model of the script from an answer for the simplified one. All work is done by `run`.
 #![tactic(auto)]
 
 use chc_jobs::top::{Word, run};

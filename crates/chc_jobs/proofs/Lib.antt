@@ -1,4 +1,10 @@
 pub mod Lines
+pub mod Replays
 pub mod SliceRuns
+pub mod ScriptSorts
+pub mod Backs
+pub mod LiftLaws
 pub mod RunLaws
-pub mod Fewness
+pub mod NormaliseRuns
+pub mod LiftRuns
+pub mod Named

@@ -1,10 +1,10 @@
 -- What the parts of a run come to together.
-use Rattle.std.proofs.Common.{◌≡◌, ◌≢◌, ℕ, ◌<◌, ◌≤◌, List, length, refl, sym, ◌∙◌, subst, inl, inr, arith}
-use Rattle.std.specs.Prelude.{◌⊎◌, Some}
+use Rattle.std.proofs.Common.{◌≡◌, ◌≢◌, ℕ, ◌<◌, ◌≤◌, List, [], ◌∷◌, length, map, refl, sym, ◌∙◌, ap, subst, inl, inr, arith}
+use Rattle.std.specs.Prelude.{◌⊎◌, Option, Some, unwrap_or}
 use Rattle.chc_source.specs.Outside.{Outside, bytes_at, Rose, Grows, OnlyReads, OnlyWrites, IsCutShort}
-use Rattle.chc_jobs.specs.Jobs.{ReadsNone}
-use Rattle.chc_jobs.specs.Runs.{Given, most_bytes, Touches, Makes, HoldBoth, CutsOut, CutsTrace, Told, SomeTexts, Comes, IsComplete}
-use Rattle.chc_jobs.specs.Refusals.{ReadRefusal, WriteRefusal, BytesRefusal, ScriptRefusal, OutputRefusal}
+use Rattle.chc_state.specs.Meaning.{In}
+use Rattle.chc_jobs.specs.Runs.{FileWord, Given, Job, most_bytes, IsApart, Touches, SameFiles, Told, ReadFails, WriteFails, AreShort, IsTooLong, AreAsBefore, HoldTexts, StopsAt, Stopped, Written, Comes, NoFaults, IsDoneOrFree}
+use Rattle.chc_jobs.specs.Refusals.{WordReadRefusal, WordWriteRefusal, OnlyReadsAll, ReadRefusal, BytesRefusal, InputRefusal, OutputRefusal, AreRead}
 use Rattle.chc_jobs.specs.declared.top.status.Outcome.{Outcome}
 use Rattle.chc_jobs.specs.declared.top.status.Status.{Status}
 use Rattle.chc_jobs.specs.declared.top.status.Status.TheVariants as status
@@ -16,182 +16,257 @@ grows-same a b e = record { never_falls = omega arith; stands_still = omega arit
 rose-back : (b a c : ℕ) → b ≡ a → Rose b c → Rose a c
 rose-back b a c e rose = let P : ℕ → Type 0 = λ n. Rose n c in subst P e rose
 
+rose-earlier : (a b c : ℕ) → a ≤ b → Rose b c → Rose a c
+rose-earlier a b c e rose = omega (arith, rose)
+
 -- what is said where the files tell may be said of files that tell alike
 told-back : (a b : Outside) (P : Type 0) → b.tells ≡ a.tells → Told b P → Told a P
 told-back a b P e told t = told (rw e t)
 
-told-on : (a b : Outside) (P : Type 0) → b.tells ≡ a.tells → Told a P → Told b P
-told-on a b P e told t = told (rw (← e) t)
+-- one read after another
+pub reads-one : (words : List FileWord) (v : FileWord) (a b : Outside) → In v words → OnlyReads v.name a b → OnlyReadsAll words a b
+reads-one words v a b i r = record { telling = r.telling; files = r.files; counts = r.counts; other_reads = λ n apart. r.other_reads n (apart v i); writes = r.writes }
 
-pub Touches-reads : (g : Given) (a b : Outside) → OnlyReads g.script a b → Touches g a b
+pub reads-then : (words : List FileWord) (a b c : Outside) → OnlyReadsAll words a b → OnlyReadsAll words b c → OnlyReadsAll words a c
+reads-then words a b c p q = record {
+  telling = q.telling ∙ p.telling;
+  files = λ n. q.files n ∙ p.files n;
+  counts = λ n. Grows-then _ _ _ (p.counts n) (q.counts n);
+  other_reads = λ n x. q.other_reads n x ∙ p.other_reads n x;
+  writes = λ n. q.writes n ∙ p.writes n;
+}
+
+pub reads-none : (words : List FileWord) (a : Outside) → OnlyReadsAll words a a
+reads-none words a = record { telling = refl; files = λ n. refl; counts = λ n. grows-same _ _ refl; other_reads = λ n x. refl; writes = λ n. refl }
+
+-- reads leave the bytes
+pub bytes-same : (words : List FileWord) (a b : Outside) (n : List ℕ) → OnlyReadsAll words a b → bytes_at b n ≡ bytes_at a n
+bytes-same words a b n r = ap (λ (o : Option (List ℕ)). unwrap_or o []) (r.files n)
+
+pub bytes-later : (words : List FileWord) (a b : Outside) (n text : List ℕ) → OnlyReadsAll words a b → Told b (text ≡ bytes_at b n) → Told a (text ≡ bytes_at a n)
+bytes-later words a b n text r told t = told (rw r.telling t) ∙ bytes-same words a b n r
+
+-- what is touched
+pub Touches-reads : (g : Given) (a b : Outside) → OnlyReadsAll g.inputs a b → Touches g a b
 Touches-reads g a b r = record {
   telling = r.telling;
-  other_files = λ n _ _. r.files n;
+  other_files = λ n _. r.files n;
   reads = r.counts;
   writes = λ n. grows-same _ _ (r.writes n);
   other_reads = r.other_reads;
-  other_writes = λ n _ _. r.writes n;
+  other_writes = λ n _. r.writes n;
 }
 
-pub Touches-out : (g : Given) (a b : Outside) → OnlyWrites g.out a b → Touches g a b
-Touches-out g a b w = record {
+pub Touches-writes : (g : Given) (v : FileWord) (a b : Outside) → In v g.outputs → OnlyWrites v.name a b → Touches g a b
+Touches-writes g v a b i w = record {
   telling = w.telling;
-  other_files = λ n apart _. w.other_files n apart;
+  other_files = λ n apart. w.other_files n (apart v i);
   reads = λ n. grows-same _ _ (w.reads n);
   writes = w.counts;
   other_reads = λ n _. w.reads n;
-  other_writes = λ n apart _. w.other_writes n apart;
-}
-
-pub Touches-trace : (g : Given) (a b : Outside) → OnlyWrites g.trace a b → Touches g a b
-Touches-trace g a b w = record {
-  telling = w.telling;
-  other_files = λ n _ apart. w.other_files n apart;
-  reads = λ n. grows-same _ _ (w.reads n);
-  writes = w.counts;
-  other_reads = λ n _. w.reads n;
-  other_writes = λ n _ apart. w.other_writes n apart;
+  other_writes = λ n apart. w.other_writes n (apart v i);
 }
 
 pub Touches-then : (g : Given) (a b c : Outside) → Touches g a b → Touches g b c → Touches g a c
 Touches-then g a b c p q = record {
   telling = q.telling ∙ p.telling;
-  other_files = λ n x y. q.other_files n x y ∙ p.other_files n x y;
+  other_files = λ n x. q.other_files n x ∙ p.other_files n x;
   reads = λ n. Grows-then _ _ _ (p.reads n) (q.reads n);
   writes = λ n. Grows-then _ _ _ (p.writes n) (q.writes n);
   other_reads = λ n x. q.other_reads n x ∙ p.other_reads n x;
-  other_writes = λ n x y. q.other_writes n x y ∙ p.other_writes n x y;
+  other_writes = λ n x. q.other_writes n x ∙ p.other_writes n x;
 }
 
-pub Touches-none : (g : Given) (a : Outside) → Touches g a a
-Touches-none g a = record {
-  telling = refl;
-  other_files = λ n _ _. refl;
-  reads = λ n. grows-same _ _ refl;
-  writes = λ n. grows-same _ _ refl;
-  other_reads = λ n _. refl;
-  other_writes = λ n _ _. refl;
+-- a read that was refused after others
+pub read_refused : (words : List FileWord) (v : FileWord) (a b c : Outside) (s : Status) → In v words → OnlyReadsAll words a b
+    → Told a ((u : FileWord) → In u words → u.number < v.number → length (bytes_at a u.name) ≤ most_bytes)
+    → WordReadRefusal v.name v.number b c s → ReadRefusal words a c s
+read_refused words v a b c (status.Done o) i r short h = h
+read_refused words v a b c status.Usage i r short h = h
+read_refused words v a b c (status.ScriptRefused f) i r short h = h
+read_refused words v a b c (status.TraceRefused f) i r short h = h
+read_refused words v a b c (status.Foreign f) i r short h = h
+read_refused words v a b c (status.AnswerRefused f) i r short h = h
+read_refused words v a b c (status.ReadFault k) i r short h = record {
+  word = v;
+  stands = i;
+  number_is = h.0;
+  rose = rose-earlier (a.read_faults v.name) (b.read_faults v.name) (c.read_faults v.name) (r.counts v.name).never_falls h.1;
+}
+read_refused words v a b c (status.WriteFault k) i r short h = h
+read_refused words v a b c (status.TooLong k) i r short h = λ t. record {
+  word = v;
+  stands = i;
+  number_is = h.0;
+  long = let P : List ℕ → Type 0 = λ text. most_bytes < length text in subst P (bytes-same words a b v.name r) (h.1 (rw r.telling t));
+  earlier = λ u j less. short t u j (let below : u.number < v.number = omega (arith, less, h.0) in below);
+}
+read_refused words v a b c status.NoMemory i r short h = h
+
+-- a refused read of an input
+pub input_unread : (g : Given) (job : Job) (a b : Outside) (s : Status) → ReadRefusal g.inputs a b s → InputRefusal g job a b s
+input_unread g job a b (status.Done o) h = h
+input_unread g job a b status.Usage h = h
+input_unread g job a b (status.ScriptRefused f) h = absurd h
+input_unread g job a b (status.TraceRefused f) h = absurd h
+input_unread g job a b (status.Foreign f) h = absurd h
+input_unread g job a b (status.AnswerRefused f) h = absurd h
+input_unread g job a b (status.ReadFault k) h = h
+input_unread g job a b (status.WriteFault k) h = h
+input_unread g job a b (status.TooLong k) h = h
+input_unread g job a b status.NoMemory h = h
+
+-- the refusals of bytes that were read are those of the files' bytes
+pub input_refused : (g : Given) (job : Job) (refuses : Status → Type 0) (a b : Outside) (s : Status)
+    → Told a (AreShort g.inputs a) → Told a ((u : Status) → refuses u → job.refuses u) → BytesRefusal refuses s → InputRefusal g job a b s
+input_refused g job refuses a b (status.Done o) short same h = h
+input_refused g job refuses a b status.Usage short same h = h
+input_refused g job refuses a b (status.ScriptRefused f) short same h = λ t. (short t, same t (status.ScriptRefused f) h)
+input_refused g job refuses a b (status.TraceRefused f) short same h = λ t. (short t, same t (status.TraceRefused f) h)
+input_refused g job refuses a b (status.Foreign f) short same h = λ t. (short t, same t (status.Foreign f) h)
+input_refused g job refuses a b (status.AnswerRefused f) short same h = λ t. (short t, same t (status.AnswerRefused f) h)
+input_refused g job refuses a b (status.ReadFault k) short same h = absurd h
+input_refused g job refuses a b (status.WriteFault k) short same h = h
+input_refused g job refuses a b (status.TooLong k) short same h = absurd h
+input_refused g job refuses a b status.NoMemory short same h = h
+
+-- a run that ended at its inputs
+pub ended_early : (g : Given) (job : Job) (a b : Outside) (s : Status) → SameFiles a b → InputRefusal g job a b s → Comes g job a b s
+ended_early g job a b (status.Done o) same h = absurd h
+ended_early g job a b status.Usage same h = h
+ended_early g job a b (status.ScriptRefused f) same h = (same, h)
+ended_early g job a b (status.TraceRefused f) same h = (same, h)
+ended_early g job a b (status.Foreign f) same h = (same, h)
+ended_early g job a b (status.AnswerRefused f) same h = (same, h)
+ended_early g job a b (status.ReadFault k) same h = (same, h)
+ended_early g job a b (status.WriteFault k) same h = absurd h
+ended_early g job a b (status.TooLong k) same h = (same, h)
+ended_early g job a b status.NoMemory same h = λ t. inl same
+
+-- texts that were read are short
+In-map : (f : FileWord → List ℕ) (v : FileWord) (words : List FileWord) → In v words → In (f v) (map f words)
+In-map f v [] i = i
+In-map f v (u ∷ words) (inl e) = inl (ap f e)
+In-map f v (u ∷ words) (inr i) = inr (In-map f v words i)
+
+pub read_short : (words : List FileWord) (texts : List (List ℕ)) (a : Outside) → AreRead words texts a → Told a (AreShort words a)
+read_short words texts a r t = record {
+  short = λ v i.
+      let P : List (List ℕ) → Type 0 = λ l. In (bytes_at a v.name) l in
+      r.short (bytes_at a v.name) (subst P (sym (r.bytes t)) (In-map (λ (u : FileWord). bytes_at a u.name) v words i));
 }
 
--- a read that was refused
-pub read_refused : (name : List ℕ) (a b : Outside) (s : Status) → ReadRefusal name 1 a b s → ScriptRefusal name a b s
-read_refused name a b (status.Done o) h = h
-read_refused name a b status.Usage h = h
-read_refused name a b (status.ScriptRefused f) h = absurd h
-read_refused name a b (status.ReadFault k) h = h
-read_refused name a b (status.WriteFault k) h = h
-read_refused name a b (status.TooLong k) h = h
-read_refused name a b status.NoMemory h = h
+-- writes of other names leave the files
+untouched : (v : FileWord) (words : List FileWord) (a b : Outside) → OnlyWrites v.name a b → ((u : FileWord) → In u words → u.name ≢ v.name) → AreAsBefore words a b
+untouched v [] a b w apart = tt
+untouched v (u ∷ words) a b w apart = (w.other_files u.name (apart u (inl refl)), untouched v words a b w (λ x i. apart x (inr i)))
 
--- bytes that were read, and are no script
-pub bytes_refused : (name text : List ℕ) (a b : Outside) (s : Status) → Told a (text ≡ bytes_at a name) → length text ≤ most_bytes → BytesRefusal text s → ScriptRefusal name a b s
-bytes_refused name text a b (status.Done o) read few h = h
-bytes_refused name text a b status.Usage read few h = h
-bytes_refused name text a b (status.ScriptRefused f) read few h = (
-  h.0,
-  λ t.
-      let P : List ℕ → Type 0 = λ bytes. (length bytes ≤ most_bytes) × ReadsNone bytes in
-      subst P (read t) (few, h.1),
-)
-bytes_refused name text a b (status.ReadFault k) read few h = absurd h
-bytes_refused name text a b (status.WriteFault k) read few h = h
-bytes_refused name text a b (status.TooLong k) read few h = absurd h
-bytes_refused name text a b status.NoMemory read few h = h
-
--- a script that was refused
-pub script_refused : (g : Given) (a b : Outside) (s : Status) → OnlyReads g.script a b → ScriptRefusal g.script a b s → Comes g a b s
-script_refused g a b (status.Done o) r h = absurd h
-script_refused g a b status.Usage r h = h
-script_refused g a b (status.ScriptRefused f) r h = (r.files, h.0, h.1)
-script_refused g a b (status.ReadFault k) r h = (r.files, h.0, h.1)
-script_refused g a b (status.WriteFault k) r h = absurd h
-script_refused g a b (status.TooLong k) r h = (r.files, h.0, h.1)
-script_refused g a b status.NoMemory r h = λ t. inl r.files
-
--- a text cut short, where the name held the same before
 cut-back : (name text : List ℕ) (a b c : Outside) → b.held name ≡ a.held name → IsCutShort name text b c → IsCutShort name text a c
 cut-back name text a b c e (inl same) = inl (same ∙ e)
-cut-back name text a b c e (inr cut) = inr cut
+cut-back name text a b c e (inr part) = inr part
 
--- OUT was refused
-pub out_refused : (g : Given) (out trace : List ℕ) (a b : Outside) (s : Status) → g.trace ≢ g.out → OnlyWrites g.out a b
-    → Told a (IsCutShort g.out out a b) → WriteRefusal g.out 2 a b s → OutputRefusal g out trace a b s
-out_refused g out trace a b (status.Done o) apart w cut h = h
-out_refused g out trace a b status.Usage apart w cut h = h
-out_refused g out trace a b (status.ScriptRefused f) apart w cut h = h
-out_refused g out trace a b (status.ReadFault k) apart w cut h = h
-out_refused g out trace a b (status.WriteFault k) apart w cut h =
-    inl (h.0, h.1, λ t. record { cut = cut t; trace_same = w.other_files g.trace apart })
-out_refused g out trace a b (status.TooLong k) apart w cut h = h
-out_refused g out trace a b status.NoMemory apart w cut h =
-    λ t. inl (record { cut = cut t; trace_same = w.other_files g.trace apart })
+before-back : (words : List FileWord) (a b c : Outside) → ((u : FileWord) → In u words → b.held u.name ≡ a.held u.name) → AreAsBefore words b c → AreAsBefore words a c
+before-back [] a b c same h = h
+before-back (u ∷ words) a b c same h = (h.0 ∙ same u (inl refl), before-back words a b c (λ x i. same x (inr i)) h.1)
 
-cuts-trace : (g : Given) (out trace : List ℕ) (a b c : Outside) → g.trace ≢ g.out → OnlyWrites g.out a b → Told a (b.held g.out ≡ Some out)
-    → OnlyWrites g.trace b c → Told b (IsCutShort g.trace trace b c) → Told a (CutsTrace g out trace a c)
-cuts-trace g out trace a b c apart w held v cut t = record {
-  out_held = v.other_files g.out (λ e. apart (sym e)) ∙ held t;
-  cut = cut-back g.trace trace a b c (w.other_files g.trace apart) (told-back a b _ w.telling cut t);
-}
+stops-back : (words : List FileWord) (texts : List (List ℕ)) (k : ℕ) (a b c : Outside)
+    → ((u : FileWord) → In u words → b.held u.name ≡ a.held u.name) → StopsAt words texts k b c → StopsAt words texts k a c
+stops-back [] texts k a b c same h = h
+stops-back (u ∷ words) [] k a b c same h = h
+stops-back (u ∷ words) (t ∷ texts) k a b c same (inl h) =
+    inl (h.0, cut-back u.name t a b c (same u (inl refl)) h.1, before-back words a b c (λ x i. same x (inr i)) h.2)
+stops-back (u ∷ words) (t ∷ texts) k a b c same (inr h) = inr (h.0, stops-back words texts k a b c (λ x i. same x (inr i)) h.1)
 
--- TRACE was refused after OUT was written
-pub trace_refused : (g : Given) (out trace : List ℕ) (a b c : Outside) (s : Status) → g.trace ≢ g.out → OnlyWrites g.out a b → Told a (b.held g.out ≡ Some out)
-    → OnlyWrites g.trace b c → Told b (IsCutShort g.trace trace b c) → WriteRefusal g.trace 3 b c s → OutputRefusal g out trace a c s
-trace_refused g out trace a b c (status.Done o) apart w held v cut h = h
-trace_refused g out trace a b c status.Usage apart w held v cut h = h
-trace_refused g out trace a b c (status.ScriptRefused f) apart w held v cut h = h
-trace_refused g out trace a b c (status.ReadFault k) apart w held v cut h = h
-trace_refused g out trace a b c (status.WriteFault k) apart w held v cut h =
-    inr (h.0, rose-back (b.write_faults g.trace) (a.write_faults g.trace) (c.write_faults g.trace) (w.other_writes g.trace apart) h.1, cuts-trace g out trace a b c apart w held v cut)
-trace_refused g out trace a b c (status.TooLong k) apart w held v cut h = h
-trace_refused g out trace a b c status.NoMemory apart w held v cut h =
-    λ t. inr (cuts-trace g out trace a b c apart w held v cut t)
+-- the first of the writes was refused
+pub first_refused : (v : FileWord) (words : List FileWord) (t : List ℕ) (texts : List (List ℕ)) (a b : Outside) (s : Status)
+    → OnlyWrites v.name a b → ((u : FileWord) → In u words → u.name ≢ v.name) → Told a (IsCutShort v.name t a b)
+    → WordWriteRefusal v.name v.number a b s → OutputRefusal (v ∷ words) (t ∷ texts) a b s
+first_refused v words t texts a b (status.Done o) w apart cut h = h
+first_refused v words t texts a b status.Usage w apart cut h = h
+first_refused v words t texts a b (status.ScriptRefused f) w apart cut h = h
+first_refused v words t texts a b (status.TraceRefused f) w apart cut h = h
+first_refused v words t texts a b (status.Foreign f) w apart cut h = h
+first_refused v words t texts a b (status.AnswerRefused f) w apart cut h = h
+first_refused v words t texts a b (status.ReadFault k) w apart cut h = h
+first_refused v words t texts a b (status.WriteFault k) w apart cut h =
+    (record { word = v; stands = inl refl; number_is = h.0; rose = h.1 }, λ told. inl (h.0, cut told, untouched v words a b w apart))
+first_refused v words t texts a b (status.TooLong k) w apart cut h = h
+first_refused v words t texts a b status.NoMemory w apart cut h = λ told. (v.number, inl (refl, cut told, untouched v words a b w apart))
 
--- both outputs were written
-pub both_written : (g : Given) (out trace : List ℕ) (a b c : Outside) → g.trace ≢ g.out → OnlyWrites g.out a b → Told a (b.held g.out ≡ Some out)
-    → OnlyWrites g.trace b c → Told b (c.held g.trace ≡ Some trace) → Told a (HoldBoth g out trace c)
-both_written g out trace a b c apart w held v written t = record {
-  out_held = v.other_files g.out (λ e. apart (sym e)) ∙ held t;
-  trace_held = told-back a b _ w.telling written t;
-}
+-- a later write was refused after the first
+pub later_refused : (v : FileWord) (words : List FileWord) (t : List ℕ) (texts : List (List ℕ)) (a b c : Outside) (s : Status)
+    → OnlyWrites v.name a b → ((u : FileWord) → In u words → u.name ≢ v.name) → Told a (b.held v.name ≡ Some t) → c.held v.name ≡ b.held v.name
+    → OutputRefusal words texts b c s → OutputRefusal (v ∷ words) (t ∷ texts) a c s
+later_refused v words t texts a b c (status.Done o) w apart held stays h = h
+later_refused v words t texts a b c status.Usage w apart held stays h = h
+later_refused v words t texts a b c (status.ScriptRefused f) w apart held stays h = h
+later_refused v words t texts a b c (status.TraceRefused f) w apart held stays h = h
+later_refused v words t texts a b c (status.Foreign f) w apart held stays h = h
+later_refused v words t texts a b c (status.AnswerRefused f) w apart held stays h = h
+later_refused v words t texts a b c (status.ReadFault k) w apart held stays h = h
+later_refused v words t texts a b c (status.WriteFault k) w apart held stays h = (
+  record {
+    word = h.0.word;
+    stands = inr h.0.stands;
+    number_is = h.0.number_is;
+    rose = rose-back _ _ (c.write_faults h.0.word.name) (w.other_writes h.0.word.name (apart h.0.word h.0.stands)) h.0.rose;
+  },
+  λ told. inr (stays ∙ held told, stops-back words texts k a b c (λ u i. w.other_files u.name (apart u i)) (h.1 (rw w.telling told))),
+)
+later_refused v words t texts a b c (status.TooLong k) w apart held stays h = h
+later_refused v words t texts a b c status.NoMemory w apart held stays h =
+    λ told. let at = h (rw w.telling told) in (at.0, inr (stays ∙ held told, stops-back words texts at.0 a b c (λ u i. w.other_files u.name (apart u i)) at.1))
 
-cuts-out-back : (g : Given) (out : List ℕ) (a b c : Outside) → OnlyReads g.script a b → CutsOut g out b c → CutsOut g out a c
-cuts-out-back g out a b c r h = record { cut = cut-back g.out out a b c (r.files g.out) h.cut; trace_same = h.trace_same ∙ r.files g.trace }
-
-cuts-trace-back : (g : Given) (out trace : List ℕ) (a b c : Outside) → OnlyReads g.script a b → CutsTrace g out trace b c → CutsTrace g out trace a c
-cuts-trace-back g out trace a b c r h = record { out_held = h.out_held; cut = cut-back g.trace trace a b c (r.files g.trace) h.cut }
-
-some-cut : (g : Given) (out trace : List ℕ) (o : Outcome) (a b c : Outside) → OnlyReads g.script a b → Makes (bytes_at a g.script) out trace o
-    → CutsOut g out b c ⊎ CutsTrace g out trace b c
-    → SomeTexts g a (λ x y. CutsOut g x a c) ⊎ SomeTexts g a (λ x y. CutsTrace g x y a c)
-some-cut g out trace o a b c r made (inl h) = inl (out, trace, o, made, cuts-out-back g out a b c r h)
-some-cut g out trace o a b c r made (inr h) = inr (out, trace, o, made, cuts-trace-back g out trace a b c r h)
-
--- the outputs were refused after a script was read and normalised
-pub output_refused : (g : Given) (out trace : List ℕ) (o : Outcome) (a b c : Outside) (s : Status) → OnlyReads g.script a b
-    → Told a (Makes (bytes_at a g.script) out trace o) → OutputRefusal g out trace b c s → Comes g a c s
-output_refused g out trace o a b c (status.Done d) r made h = absurd h
-output_refused g out trace o a b c status.Usage r made h = h
-output_refused g out trace o a b c (status.ScriptRefused f) r made h = absurd h
-output_refused g out trace o a b c (status.ReadFault k) r made h = absurd h
-output_refused g out trace o a b c (status.WriteFault k) r made (inl h) =
-    inl (h.0, rose-back _ _ (c.write_faults g.out) (r.writes g.out) h.1, λ t. (out, trace, o, made t, cuts-out-back g out a b c r (told-back a b _ r.telling h.2 t)))
-output_refused g out trace o a b c (status.WriteFault k) r made (inr h) =
-    inr (h.0, rose-back _ _ (c.write_faults g.trace) (r.writes g.trace) h.1, λ t. (out, trace, o, made t, cuts-trace-back g out trace a b c r (told-back a b _ r.telling h.2 t)))
-output_refused g out trace o a b c (status.TooLong k) r made h = absurd h
-output_refused g out trace o a b c status.NoMemory r made h = λ t. inr (some-cut g out trace o a b c r (made t) (told-back a b _ r.telling h t))
+-- the outputs were refused after the inputs were read and came to some texts
+pub output_refused : (g : Given) (job : Job) (texts : List (List ℕ)) (o : Outcome) (a b c : Outside) (s : Status) → OnlyReadsAll g.inputs a b
+    → Told a (AreShort g.inputs a) → Told a (job.makes texts o) → OutputRefusal g.outputs texts b c s → Comes g job a c s
+output_refused g job texts o a b c (status.Done d) r short made h = absurd h
+output_refused g job texts o a b c status.Usage r short made h = h
+output_refused g job texts o a b c (status.ScriptRefused f) r short made h = absurd h
+output_refused g job texts o a b c (status.TraceRefused f) r short made h = absurd h
+output_refused g job texts o a b c (status.Foreign f) r short made h = absurd h
+output_refused g job texts o a b c (status.AnswerRefused f) r short made h = absurd h
+output_refused g job texts o a b c (status.ReadFault k) r short made h = absurd h
+output_refused g job texts o a b c (status.WriteFault k) r short made h = (
+  record { word = h.0.word; stands = h.0.stands; number_is = h.0.number_is; rose = rose-back _ _ (c.write_faults h.0.word.name) (r.writes h.0.word.name) h.0.rose },
+  λ t. record {
+    texts = texts;
+    outcome = o;
+    short = short t;
+    made = made t;
+    stops = stops-back g.outputs texts k a b c (λ u i. r.files u.name) (h.1 (rw r.telling t));
+  },
+)
+output_refused g job texts o a b c (status.TooLong k) r short made h = absurd h
+output_refused g job texts o a b c status.NoMemory r short made h = λ t.
+    let at = h (rw r.telling t) in
+    inr (
+    at.0,
+    record {
+      texts = texts;
+      outcome = o;
+      short = short t;
+      made = made t;
+      stops = stops-back g.outputs texts at.0 a b c (λ u i. r.files u.name) at.1;
+    },
+    )
 
 -- all was read, computed and written
-pub all_done : (g : Given) (out trace : List ℕ) (o : Outcome) (a b c : Outside) → OnlyReads g.script a b
-    → Told a (Makes (bytes_at a g.script) out trace o) → Told b (HoldBoth g out trace c) → Comes g a c (status.Done o)
-all_done g out trace o a b c r made held t = (out, trace, made t, told-back a b _ r.telling held t)
+pub all_done : (g : Given) (job : Job) (texts : List (List ℕ)) (o : Outcome) (a b c : Outside) → OnlyReadsAll g.inputs a b
+    → Told a (AreShort g.inputs a) → Told a (job.makes texts o) → Told b (HoldTexts g.outputs texts c) → Comes g job a c (status.Done o)
+all_done g job texts o a b c r short made held t = record { texts = texts; short = short t; made = made t; held = held (rw r.telling t) }
 
--- what a run comes to leaves nothing out: a script that is read, without a fault, is normalised
-pub is_complete : (g : Given) (a b : Outside) (s : Status) → Comes g a b s → IsComplete g a b s
-is_complete g a b (status.Done o) h t f few X x = tt
-is_complete g a b status.Usage h t f few X x = h
-is_complete g a b (status.ScriptRefused fault) h t f few X x = (h.2 t).1 X x
-is_complete g a b (status.ReadFault k) h t f few X x = f.reads h.2
-is_complete g a b (status.WriteFault k) (inl h) t f few X x = f.out h.1
-is_complete g a b (status.WriteFault k) (inr h) t f few X x = f.trace h.1
-is_complete g a b (status.TooLong k) h t f few X x = absurd (let long : most_bytes < length (bytes_at a g.script) = h.2 t in omega arith)
-is_complete g a b status.NoMemory h t f few X x = tt
+-- inputs that aren't refused, read without a fault, are done
+pub is_complete : (g : Given) (job : Job) (a b : Outside) (s : Status) → ((u : Status) → job.refuses u → ⊥) → Comes g job a b s
+    → Told a (NoFaults g a b → AreShort g.inputs a → IsDoneOrFree s)
+is_complete g job a b (status.Done o) valid h t f short = tt
+is_complete g job a b status.Usage valid h t f short = h
+is_complete g job a b (status.ScriptRefused fault) valid h t f short = valid (status.ScriptRefused fault) (h.1 t).1
+is_complete g job a b (status.TraceRefused fault) valid h t f short = valid (status.TraceRefused fault) (h.1 t).1
+is_complete g job a b (status.Foreign fault) valid h t f short = valid (status.Foreign fault) (h.1 t).1
+is_complete g job a b (status.AnswerRefused fault) valid h t f short = valid (status.AnswerRefused fault) (h.1 t).1
+is_complete g job a b (status.ReadFault k) valid h t f short = f.reads h.1.word h.1.stands h.1.rose
+is_complete g job a b (status.WriteFault k) valid h t f short = f.writes h.0.word h.0.stands h.0.rose
+is_complete g job a b (status.TooLong k) valid h t f short =
+    let long = h.1 t in absurd (let few : length (bytes_at a long.word.name) ≤ most_bytes = short.short long.word long.stands in omega (arith, long.long))
+is_complete g job a b status.NoMemory valid h t f short = tt

@@ -6,13 +6,8 @@ use Rattle.chc_state.specs.Meaning.{SameAnswer}
 use Rattle.chc_state.specs.Steps.{IsLegal, Applies, Goes, after}
 use Rattle.chc_state.specs.declared.step.Step.{Step}
 use Rattle.chc_state.specs.declared.step.Step.TheVariants as step
+use Rattle.chc_jobs.proofs.Replays.{Goes-more, after-sig}
 use Rattle.chc_jobs.specs.Slicing.{IsNext, TakesNext, IsRun}
-
-Goes-more : (s : StateView) (xs : List Step) (z : StateView) (x : Step) → Goes s xs z → IsLegal z x → Goes s (xs ++ x ∷ []) (after z x)
-Goes-more s [] z x e legal =
-    let P : StateView → Type 0 = λ y. IsLegal y x in
-    (subst P (sym e) legal, ap (λ (y : StateView). after y x) e)
-Goes-more s (y ∷ ys) z x g legal = (g.0, Goes-more (after s y) ys z x g.1 legal)
 
 TakesNext-more : (s : StateView) (xs : List Step) (z : StateView) (x : Step) → TakesNext s xs z → IsNext z (Some x) → TakesNext s (xs ++ x ∷ []) (after z x)
 TakesNext-more s [] z x e next =
@@ -22,10 +17,6 @@ TakesNext-more s (y ∷ ys) z x g next = (g.0, TakesNext-more (after s y) ys z x
 
 SameAnswer-then : (a b c : StateView) → SameAnswer a b → SameAnswer b c → SameAnswer a c
 SameAnswer-then a b c f g w = (λ d. (g w).0 ((f w).0 d), λ d. (f w).1 ((g w).1 d))
-
-after-sig : (s : StateView) (x : Step) → (after s x).sig ≡ s.sig
-after-sig s (step.Unreached ps) = refl
-after-sig s (step.Unneeded ps) = refl
 
 -- the next step is legal
 pub IsNext-legal : (s : StateView) (x : Step) → IsNext s (Some x) → IsLegal s x

@@ -1,5 +1,8 @@
 pub mod Slicing
+pub mod Replaying
 pub mod Jobs
+pub mod Lifting
+pub mod LiftFaults
 pub mod Lines
 pub mod Commands
 pub mod Runs

@@ -5,6 +5,8 @@ use Rattle.chc_source.specs.Output.{Output, GoesOn}
 use Rattle.chc_source.specs.declared.sink.Failed.{Failed}
 use Rattle.chc_sexpr.specs.Faults.{fault_name}
 use Rattle.chc_sexpr.specs.declared.fault.TextFault.{TextFault}
+use Rattle.chc_jobs.specs.declared.lift.foreign.Foreign.{Foreign}
+use Rattle.chc_jobs.specs.declared.lift.foreign.Foreign.TheVariants as foreign
 use Rattle.chc_jobs.specs.declared.top.status.Outcome.{Outcome}
 use Rattle.chc_jobs.specs.declared.top.status.Outcome.TheVariants as outcome
 use Rattle.chc_jobs.specs.declared.top.status.Status.{Status}
@@ -15,6 +17,9 @@ abbrev pub code_of : Status → ℕ
 code_of (status.Done o) = 0
 code_of status.Usage = 1
 code_of (status.ScriptRefused f) = 2
+code_of (status.TraceRefused f) = 3
+code_of (status.Foreign f) = 4
+code_of (status.AnswerRefused f) = 5
 code_of (status.ReadFault k) = 8
 code_of (status.WriteFault k) = 9
 code_of (status.TooLong k) = 10
@@ -28,6 +33,13 @@ counted text n = text ++ decimal n
 abbrev pub outcome_line : Outcome → List ℕ
 outcome_line (outcome.Normalised before after steps) =
     (counted (codes "normalised: clauses ") before ++ counted (codes " to ") after) ++ counted (codes ", steps ") steps
+outcome_line (outcome.Lifted definitions) = counted (codes "lifted: sat, definitions ") definitions
+
+-- why a trace isn't the script's
+abbrev pub foreign_line : Foreign → List ℕ
+foreign_line (foreign.Source kept found) = codes "foreign trace: source"
+foreign_line (foreign.Step k) = counted (codes "foreign trace: step ") k
+foreign_line (foreign.Target kept found) = codes "foreign trace: target"
 
 -- a text, and then a fault with its place
 abbrev pub fault_line : List ℕ → TextFault → List ℕ
@@ -36,8 +48,11 @@ fault_line text f = (counted text f.place ++ codes ": ") ++ fault_name f.fault
 -- the line of a status, without its line feed
 abbrev pub words_of : Status → List ℕ
 words_of (status.Done o) = outcome_line o
-words_of status.Usage = codes "usage: chc normalise SCRIPT OUT TRACE"
+words_of status.Usage = codes "usage: chc normalise SCRIPT OUT TRACE | chc lift SCRIPT TRACE ANSWER OUT"
 words_of (status.ScriptRefused f) = fault_line (codes "script refused at ") f
+words_of (status.TraceRefused f) = fault_line (codes "trace refused at ") f
+words_of (status.Foreign f) = foreign_line f
+words_of (status.AnswerRefused f) = fault_line (codes "answer refused at ") f
 words_of (status.ReadFault k) = counted (codes "cannot read word ") k
 words_of (status.WriteFault k) = counted (codes "cannot write word ") k
 words_of (status.TooLong k) = counted (codes "too long: word ") k

@@ -1,20 +1,30 @@
 //! The jobs over byte lists.
 
+mod back;
+mod copying;
+mod foreign;
+mod model;
+mod reading;
+mod replay;
 mod slicing;
+mod steps;
 
 ghost use Rattle.std.specs.Prelude.{◌≡◌, ◌<◌, ◌^◌, length, IfOk, IfErr};
 ghost use Rattle.sha2.specs.Sha256.{sha256};
-ghost use Rattle.chc_trace.specs.Traces.{trace_lines};
+ghost use Rattle.chc_trace.specs.Traces.{trace_lines, SaysTrace};
 ghost use Rattle.chc_sorts.specs.Signature.{no_datatypes};
-ghost use Rattle.chc_jobs.specs.Jobs.{IsPrinted, Finishes, Normalises, IsScriptRefusal, not_yet_fault};
+ghost use Rattle.chc_jobs.specs.Jobs.{IsOnlyText, Finishes, Normalises, IsRefusal, ReadsNone};
 
 use chc_print::script_text;
-use chc_script::{Names, Script, read_first};
-use chc_sexpr::{Fault, TextErr, TextFault};
+use chc_script::{Names, Script};
+use chc_sexpr::TextErr;
 use chc_sorts::List;
 use chc_source::{ByteText, NoMemory};
 use chc_state::{State, Step};
 use chc_trace::{Trace, digest, trace_text};
+pub use foreign::Foreign;
+pub use model::{LiftErr, Lifted, lift};
+use reading::read_script;
 use slicing::{Sliced, slice};
 use std::alloc::Global;
 
@@ -33,17 +43,6 @@ pub struct Normalised {
     pub steps: u64,
 }
 
-/// The fault of a text that this version doesn't read.
-fn not_yet(alloc: Global) -> TextErr
-    ensures { result ≡ TextErr.At not_yet_fault }
-{
-    TextErr::At(TextFault {
-        place: 0,
-        fault: Fault::NotYet,
-        name: ByteText::new(alloc),
-    })
-}
-
 /// The two texts that a job writes.
 #[derive(Drop)]
 struct Texts {
@@ -55,6 +54,7 @@ struct Texts {
 fn traced(alloc: Global, script: &[u8], steps: List<Step>, out: ByteText) -> Result<Texts, NoMemory>
     ensures same { IfOk result (λ t. t.out ≡ out) }
     ensures tells { IfOk result (λ t. t.trace ≡ trace_lines (record { source = sha256 script.now; steps = steps; target = out })) }
+    ensures says { IfOk result (λ t. SaysTrace t.trace (record { source = sha256 script.now; steps = steps; target = out })) }
 {
     let source = digest(script);
     let trace = Trace {
@@ -80,9 +80,10 @@ fn clause_count(state: &State) -> u32
 /// The text of a state without datatypes.
 fn print(alloc: Global, state: &State, names: &Names) -> Result<ByteText, NoMemory>
     requires { state.now.sig ≡ no_datatypes }
-    ensures { IfOk result (IsPrinted state.now names.now) }
+    ensures { IfOk result (IsOnlyText state.now names.now) }
 {
-    Ok(script_text(alloc, state, names)?)
+    let text = script_text(alloc, state, names)?;
+    Ok(text)
 }
 
 /// The text of the state that slices leave of this one, and the trace that leads there.
@@ -106,20 +107,16 @@ fn finish(alloc: Global, script: &[u8], names: &Names, state: State) -> Result<N
 }
 
 /// Simplifies a script of at most 4,294,967,295 bytes without changing its answer: in every world false
-/// is derived from the printed clauses exactly where it is from the script's.
+/// is derived from the printed clauses exactly where it is from the script's. The trace is the script's own.
 ///
 /// Errors: `At` with the fault `NotYet` at place 0 where the bytes are no script that this version
 /// reads, `NoMemory`.
 pub fn normalise(alloc: Global, script: &[u8]) -> Result<Normalised, TextErr>
     requires { length script.now < 2 ^ 32 }
     ensures ok { IfOk result (λ n. Normalises script.now n.out n.trace n.before n.after n.steps) }
-    ensures refused { IfErr result (IsScriptRefusal script.now) }
+    ensures refused { IfErr result (IsRefusal (ReadsNone script.now)) }
 {
-    match read_first(alloc, script)? {
-        None => Err(not_yet(alloc)),
-        Some(read) => {
-            let Script { state, names } = read;
-            Ok(finish(alloc, script, &names, state)?)
-        }
-    }
+    let Script { state, names, .. } = read_script(alloc, script)?;
+    let made = finish(alloc, script, &names, state)?;
+    Ok(made)
 }

@@ -3,7 +3,7 @@
 use crate::lift::normalise;
 use crate::top::{Status, Word, run};
 use chc_sexpr::TextErr;
-use chc_source::{Files, MemFiles, MemSink, NoMemory, QuietFiles};
+use chc_source::{ByteText, Files, MemFiles, MemSink, NoMemory, QuietFiles};
 use std::alloc::Global;
 use std::test::Fail;
 
@@ -39,6 +39,32 @@ const TRACE: &[u8] = b"(chc-trace 1)\n\
 (check-sat)\n\
 \")\n\
 ";
+
+// The trace with its two steps exchanged.
+const EXCHANGED: &[u8] = b"(chc-trace 1)\n\
+(source \"d8b9e70e4d8590085fd70eb8bb91b8e2369f283624520f485eea48af6dd90792\")\n\
+(step unneeded 1)\n\
+(step unreached 2)\n\
+(target \"(set-logic HORN)\n\
+(declare-fun inv (Int) Bool)\n\
+(assert (forall ((x0 Int)) (=> (<= x0 0) (inv x0))))\n\
+(assert (forall ((x0 Int) (x1 Int)) (=> (and (inv x0) (< x0 10) (<= x0 x1) (<= x1 (+ x0 1))) (inv x1))))\n\
+(assert (forall ((x0 Int)) (=> (and (inv x0) (< 20 x0)) false)))\n\
+(check-sat)\n\
+\")\n\
+";
+
+const ANSWER: &[u8] = b"sat ((define-fun inv ((a Int)) Bool (<= a 10)))\n";
+
+const LIFTED: &[u8] = b"sat\n\
+(\n\
+(define-fun inv ((x0 Int)) Bool (<= x0 10))\n\
+(define-fun log ((x0 Int)) Bool true)\n\
+(define-fun dead ((x0 Int)) Bool false)\n\
+)\n\
+";
+
+const LIFTED_LINE: &[u8] = b"lifted: sat, definitions 3\n";
 
 const LINE: &[u8] = b"normalised: clauses 5 to 3, steps 2\n";
 
@@ -114,7 +140,8 @@ fn is_usage(alloc: Global, texts: &[&str]) -> Result<bool, NoMemory> {
     files.hold("a", SCRIPT)?;
     let mut say = MemSink::new(alloc, 1_000)?;
     let status = run(alloc, words.as_slice(), &mut files, &mut say);
-    let line = say.taken() == b"usage: chc normalise SCRIPT OUT TRACE\n".as_slice();
+    let line = say.taken()
+        == b"usage: chc normalise SCRIPT OUT TRACE | chc lift SCRIPT TRACE ANSWER OUT\n".as_slice();
     Ok(line && status.code() == 1 && files.held("b").is_none())
 }
 
@@ -124,7 +151,11 @@ fn no_words(rt: HostRuntime) -> Result<(), Fail> {
     assert!(rt; is_usage(alloc, &[])?);
     assert!(rt; is_usage(alloc, &["normalise", "a", "b", "b"])?);
     assert!(rt; is_usage(alloc, &["normalise", "a", "a", "b"])?);
-    assert!(rt; is_usage(alloc, &["lift", "a", "b", "c", "d"])?);
+    assert!(rt; is_usage(alloc, &["lift", "a", "b", "c"])?);
+    assert!(rt; is_usage(alloc, &["lift", "a", "a", "a", "a"])?);
+    assert!(rt; is_usage(alloc, &["lift", "c", "a", "c", "a"])?);
+    assert!(rt; is_usage(alloc, &["lift", "c", "c", "a", "a"])?);
+    assert!(rt; is_usage(alloc, &["normalise", "a", "b", "c", "d"])?);
     Ok(())
 }
 
@@ -166,6 +197,220 @@ fn not_yet_script(rt: HostRuntime) -> Result<(), Fail> {
     let status = normalise_files(alloc, &mut files, &mut say)?;
     assert_eq!(rt; status.code(), 2);
     assert_eq!(rt; say.taken(), b"script refused at 0: NotYet\n".as_slice());
+    assert_eq!(rt; files.held("out"), None);
+    Ok(())
+}
+
+// Files that hold a script, a trace and an answer, of which `lift` makes something in the file `out`.
+fn lift_files(
+    alloc: Global,
+    script: &[u8],
+    trace: &[u8],
+    answer: &[u8],
+) -> Result<MemFiles, NoMemory> {
+    let mut files = MemFiles::new(alloc, 1_000_000);
+    files.hold("script", script)?;
+    files.hold("trace", trace)?;
+    files.hold("answer", answer)?;
+    Ok(files)
+}
+
+fn run_lift(
+    alloc: Global,
+    files: &mut MemFiles,
+    say: &mut MemSink,
+) -> Result<Status, NoMemory> {
+    let words = words(alloc, &["lift", "script", "trace", "answer", "out"])?;
+    Ok(run(alloc, words.as_slice(), files, say))
+}
+
+// Whether `lift` makes this text of the inputs, and says this line.
+fn lifts(
+    alloc: Global,
+    trace: &[u8],
+    answer: &[u8],
+    out: &[u8],
+    line: &[u8],
+) -> Result<bool, NoMemory> {
+    let mut files = lift_files(alloc, SCRIPT, trace, answer)?;
+    let mut say = MemSink::new(alloc, 1_000)?;
+    let status = run_lift(alloc, &mut files, &mut say)?;
+    let same = files.held("script") == Some(SCRIPT) && files.held("trace") == Some(trace);
+    let held = files.held("out") == Some(out);
+    Ok(status.code() == 0 && same && held && say.taken() == line)
+}
+
+#[test]
+fn first_run_model(rt: HostRuntime) -> Result<(), Fail> {
+    let alloc = rt.alloc();
+    assert!(rt; lifts(alloc, TRACE, ANSWER, LIFTED, LIFTED_LINE)?);
+    Ok(())
+}
+
+#[test]
+fn steps_exchanged(rt: HostRuntime) -> Result<(), Fail> {
+    let alloc = rt.alloc();
+    let out = b"sat\n\
+(\n\
+(define-fun inv ((x0 Int)) Bool (<= x0 10))\n\
+(define-fun dead ((x0 Int)) Bool false)\n\
+(define-fun log ((x0 Int)) Bool true)\n\
+)\n\
+"
+    .as_slice();
+    assert!(rt; lifts(alloc, EXCHANGED, ANSWER, out, LIFTED_LINE)?);
+    Ok(())
+}
+
+// A text with a part of it exchanged.
+fn exchanged(alloc: Global, text: &[u8], part: &[u8], by: &[u8]) -> Result<ByteText, NoMemory> {
+    let mut made = ByteText::new(alloc);
+    let mut skipped = 0;
+    for i in 0..text.len() {
+        if skipped > 0 {
+            skipped -= 1;
+        } else if text[i..].starts_with(part) {
+            made.extend(by)?;
+            skipped = part.len().saturating_sub(1);
+        } else {
+            made.push(text[i])?;
+        }
+    }
+    Ok(made)
+}
+
+// Whether `lift` refuses the inputs with this status and line, and writes nothing.
+fn refuses(
+    alloc: Global,
+    script: &[u8],
+    trace: &[u8],
+    answer: &[u8],
+    code: u8,
+    line: &[u8],
+) -> Result<bool, NoMemory> {
+    let mut files = lift_files(alloc, script, trace, answer)?;
+    let mut say = MemSink::new(alloc, 1_000)?;
+    let status = run_lift(alloc, &mut files, &mut say)?;
+    let same = files.held("script") == Some(script) && files.held("trace") == Some(trace);
+    let kept = files.held("answer") == Some(answer) && files.held("out").is_none();
+    Ok(status.code() == code && same && kept && say.taken() == line)
+}
+
+#[test]
+fn no_steps(rt: HostRuntime) -> Result<(), Fail> {
+    let alloc = rt.alloc();
+    let trace = b"(chc-trace 1)\n\
+(source \"d8b9e70e4d8590085fd70eb8bb91b8e2369f283624520f485eea48af6dd90792\")\n\
+(target \"(set-logic HORN)\n\
+(declare-fun inv (Int) Bool)\n\
+(declare-fun log (Int) Bool)\n\
+(declare-fun dead (Int) Bool)\n\
+(assert (forall ((x0 Int)) (=> (<= x0 0) (inv x0))))\n\
+(assert (forall ((x0 Int) (x1 Int)) (=> (and (inv x0) (< x0 10) (<= x0 x1) (<= x1 (+ x0 1))) (inv x1))))\n\
+(assert (forall ((x0 Int)) (=> (inv x0) (log x0))))\n\
+(assert (forall ((x0 Int) (x1 Int)) (=> (and (dead x0) (inv x1)) (inv x0))))\n\
+(assert (forall ((x0 Int)) (=> (and (inv x0) (< 20 x0)) false)))\n\
+(check-sat)\n\
+\")\n\
+"
+    .as_slice();
+    let answer = b"sat (model (define-fun dead ((a Int)) Bool false)\n\
+(define-fun inv ((a Int)) Bool (<= a 10)) (define-fun log ((b Int)) Bool (< 0 1)))\n"
+        .as_slice();
+    let out = b"sat\n\
+(\n\
+(define-fun dead ((x0 Int)) Bool false)\n\
+(define-fun inv ((x0 Int)) Bool (<= x0 10))\n\
+(define-fun log ((x0 Int)) Bool (< 0 1))\n\
+)\n\
+"
+    .as_slice();
+    assert!(rt; lifts(alloc, trace, answer, out, LIFTED_LINE)?);
+    Ok(())
+}
+
+// Whether this script and this trace are refused beside the example's answer.
+fn refuses_trace(
+    alloc: Global,
+    script: &[u8],
+    trace: &ByteText,
+    code: u8,
+    line: &[u8],
+) -> Result<bool, NoMemory> {
+    refuses(alloc, script, trace.bytes(), ANSWER, code, line)
+}
+
+#[test]
+fn foreign_source(rt: HostRuntime) -> Result<(), Fail> {
+    let alloc = rt.alloc();
+    let line = b"foreign trace: source\n".as_slice();
+    let script = exchanged(alloc, SCRIPT, b"20", b"30")?;
+    assert!(rt; refuses(alloc, script.bytes(), TRACE, ANSWER, 4, line)?);
+    let trace = exchanged(alloc, TRACE, b"d8b9", b"d8b8")?;
+    assert!(rt; refuses_trace(alloc, SCRIPT, &trace, 4, line)?);
+    Ok(())
+}
+
+#[test]
+fn foreign_steps(rt: HostRuntime) -> Result<(), Fail> {
+    let alloc = rt.alloc();
+    let target = b"foreign trace: target\n".as_slice();
+    let step = b"foreign trace: step 1\n".as_slice();
+    let left_out = exchanged(alloc, TRACE, b"(step unneeded 1)\n", b"")?;
+    assert!(rt; refuses_trace(alloc, SCRIPT, &left_out, 4, target)?);
+    let twice = b"(step unreached 2) (step unreached 2)\n".as_slice();
+    let doubled = exchanged(alloc, TRACE, b"(step unreached 2)\n", twice)?;
+    assert!(rt; refuses_trace(alloc, SCRIPT, &doubled, 4, step)?);
+    let too_many = exchanged(alloc, TRACE, b"unneeded 1", b"unneeded 0 1")?;
+    assert!(rt; refuses_trace(alloc, SCRIPT, &too_many, 4, step)?);
+    let other_target = exchanged(alloc, TRACE, b"(< 20", b"(< 21")?;
+    assert!(rt; refuses_trace(alloc, SCRIPT, &other_target, 4, target)?);
+    Ok(())
+}
+
+#[test]
+fn unread_texts(rt: HostRuntime) -> Result<(), Fail> {
+    let alloc = rt.alloc();
+    let script = b"script refused at 0: NotYet\n".as_slice();
+    assert!(rt; refuses(alloc, NOT_YET, b"", b"", 2, script)?);
+    let trace = b"trace refused at 0: NotYet\n".as_slice();
+    assert!(rt; refuses(alloc, SCRIPT, b"", ANSWER, 3, trace)?);
+    let cut = exchanged(alloc, TRACE, b"\")\n", b"\n")?;
+    assert!(rt; refuses_trace(alloc, SCRIPT, &cut, 3, trace)?);
+    let other_kind = exchanged(alloc, TRACE, b"unneeded", b"unwanted")?;
+    assert!(rt; refuses_trace(alloc, SCRIPT, &other_kind, 3, trace)?);
+    Ok(())
+}
+
+// Whether this answer is refused beside the example's script and trace.
+fn refuses_answer(alloc: Global, answer: &[u8]) -> Result<bool, NoMemory> {
+    let line = b"answer refused at 0: NotYet\n".as_slice();
+    refuses(alloc, SCRIPT, TRACE, answer, 5, line)
+}
+
+#[test]
+fn refused_answers(rt: HostRuntime) -> Result<(), Fail> {
+    let alloc = rt.alloc();
+    assert!(rt; refuses_answer(alloc, b"")?);
+    assert!(rt; refuses_answer(alloc, b"sat ()")?);
+    assert!(rt; refuses_answer(alloc, b"sat ((define-fun inv ((a Int)) Bool (<= a")?);
+    assert!(rt; refuses_answer(alloc, b"sat ((define-fun inv ((a Bool)) Bool a))")?);
+    let twice = exchanged(alloc, ANSWER, b"))\n", b") (define-fun inv ((a Int)) Bool true))")?;
+    assert!(rt; refuses_answer(alloc, twice.bytes())?);
+    let other = exchanged(alloc, ANSWER, b"inv", b"log")?;
+    assert!(rt; refuses_answer(alloc, other.bytes())?);
+    Ok(())
+}
+
+#[test]
+fn third_input_fails(rt: HostRuntime) -> Result<(), Fail> {
+    let alloc = rt.alloc();
+    let mut files = lift_files(alloc, SCRIPT, TRACE, ANSWER)?;
+    files.fail_at(4)?;
+    let mut say = MemSink::new(alloc, 1_000)?;
+    let status = run_lift(alloc, &mut files, &mut say)?;
+    assert_eq!(rt; status.code(), 8);
+    assert_eq!(rt; say.taken(), b"cannot read word 3\n".as_slice());
     assert_eq!(rt; files.held("out"), None);
     Ok(())
 }

@@ -1,9 +1,9 @@
 //! Slicing as long as there is something to slice.
 
 ghost use Rattle.std.specs.Prelude.{◌≡◌, IfOk};
-ghost use Rattle.chc_state.specs.Steps.{IsLegal, Applies};
 ghost use Rattle.chc_jobs.specs.Slicing.{IsNext, IsSliced};
 
+use super::steps::take_step;
 use chc_sorts::{List, NoMemory};
 use chc_state::{State, Step};
 use pass_slice::{unneeded, unreached};
@@ -27,17 +27,6 @@ fn next_step(alloc: Global, s: &State) -> Result<Option<Step>, NoMemory>
     match unneeded::find(alloc, s)? {
         Some(preds) => Ok(Some(Step::Unneeded(preds))),
         None => Ok(None),
-    }
-}
-
-/// The state after the step.
-fn take_step(alloc: Global, s: State, step: &Step) -> Result<State, NoMemory>
-    requires { IsLegal s step.now }
-    ensures { IfOk result (Applies s step.now) }
-{
-    match step {
-        Step::Unreached(preds) => Ok(unreached::apply(alloc, s, preds)?),
-        Step::Unneeded(preds) => Ok(unneeded::apply(alloc, s, preds)?),
     }
 }
 

@@ -3,7 +3,7 @@
 ghost use Rattle.std.specs.Prelude.{◌≡◌, ◌≤◌, length, IfOk, Some, IfErr, OnOk, OnErr};
 ghost use Rattle.chc_source.specs.Outside.{bytes_at, OnlyReads, OnlyWrites, IsCutShort};
 ghost use Rattle.chc_jobs.specs.Runs.{most_bytes, Told};
-ghost use Rattle.chc_jobs.specs.Refusals.{ReadRefusal, WriteRefusal};
+ghost use Rattle.chc_jobs.specs.Refusals.{WordReadRefusal, WordWriteRefusal};
 
 use super::status::Status;
 use chc_source::{ByteText, Files, ReadErr, WriteErr, read_whole, write_whole};
@@ -21,7 +21,7 @@ pub(crate) fn read_word<F: Files>(
 ) -> Result<ByteText, Status>
     ensures text { IfOk result (λ text. Told (F.outside files.old) (text ≡ bytes_at (F.outside files.old) name.now)) }
     ensures within { IfOk result (λ text. length text ≤ most_bytes) }
-    ensures refused { IfErr result (ReadRefusal name.now word (F.outside files.old) (F.outside files.new)) }
+    ensures refused { IfErr result (WordReadRefusal name.now word (F.outside files.old) (F.outside files.new)) }
     ensures only { OnlyReads name.now (F.outside files.old) (F.outside files.new) }
 {
     match read_whole(alloc, files, name, MOST_BYTES) {
@@ -41,7 +41,7 @@ pub(crate) fn write_word<F: Files>(
     bytes: &[u8],
 ) -> Result<(), Status>
     ensures whole { OnOk result (Told (F.outside files.old) ((F.outside files.new).held name.now ≡ Some bytes.now)) }
-    ensures refused { IfErr result (WriteRefusal name.now word (F.outside files.old) (F.outside files.new)) }
+    ensures refused { IfErr result (WordWriteRefusal name.now word (F.outside files.old) (F.outside files.new)) }
     ensures cut { OnErr result (Told (F.outside files.old) (IsCutShort name.now bytes.now (F.outside files.old) (F.outside files.new))) }
     ensures only { OnlyWrites name.now (F.outside files.old) (F.outside files.new) }
 {

@@ -1,9 +1,10 @@
 //! The one line that a run prints.
 
 ghost use Rattle.std.specs.Prelude.{decimal};
-ghost use Rattle.chc_jobs.specs.Lines.{line, words_of, counted, outcome_line, fault_line, Puts};
+ghost use Rattle.chc_jobs.specs.Lines.{line, words_of, counted, outcome_line, fault_line, foreign_line, Puts};
 
 use super::status::{Outcome, Status};
+use crate::lift::Foreign;
 use chc_sexpr::TextFault;
 use chc_source::{Failed, Sink};
 use itoa::Buffer;
@@ -44,6 +45,33 @@ fn put_normalised<K: Sink>(say: &mut K, before: u64, after: u64, steps: u64) -> 
     put_counted(say, b", steps ", steps)
 }
 
+/// Puts what was done.
+fn put_outcome<K: Sink>(say: &mut K, outcome: &Outcome) -> Result<(), Failed>
+    ensures { Puts (outcome_line outcome.now) (K.output say.old) result (K.output say.new) }
+{
+    match outcome {
+        Outcome::Normalised {
+            before,
+            after,
+            steps,
+        } => put_normalised(say, *before as u64, *after as u64, *steps),
+        Outcome::Lifted { definitions } => {
+            put_counted(say, b"lifted: sat, definitions ", *definitions)
+        }
+    }
+}
+
+/// Puts why a trace isn't the script's.
+fn put_foreign<K: Sink>(say: &mut K, foreign: &Foreign) -> Result<(), Failed>
+    ensures { Puts (foreign_line foreign.now) (K.output say.old) result (K.output say.new) }
+{
+    match foreign {
+        Foreign::Source(_, _) => put_all(say, b"foreign trace: source"),
+        Foreign::Step(k) => put_counted(say, b"foreign trace: step ", *k),
+        Foreign::Target(_, _) => put_all(say, b"foreign trace: target"),
+    }
+}
+
 /// Puts a fault with its place.
 fn put_fault<K: Sink>(say: &mut K, text: &[u8], fault: &TextFault) -> Result<(), Failed>
     ensures { Puts (fault_line text.now fault.now) (K.output say.old) result (K.output say.new) }
@@ -58,15 +86,15 @@ fn put_words<K: Sink>(say: &mut K, status: &Status) -> Result<(), Failed>
     ensures { Puts (words_of status.now) (K.output say.old) result (K.output say.new) }
 {
     match status {
-        Status::Done(
-            Outcome::Normalised {
-                before,
-                after,
-                steps,
-            },
-        ) => put_normalised(say, *before as u64, *after as u64, *steps),
-        Status::Usage => put_all(say, b"usage: chc normalise SCRIPT OUT TRACE"),
+        Status::Done(outcome) => put_outcome(say, outcome),
+        Status::Usage => put_all(
+            say,
+            b"usage: chc normalise SCRIPT OUT TRACE | chc lift SCRIPT TRACE ANSWER OUT",
+        ),
         Status::ScriptRefused(fault) => put_fault(say, b"script refused at ", fault),
+        Status::TraceRefused(fault) => put_fault(say, b"trace refused at ", fault),
+        Status::Foreign(foreign) => put_foreign(say, foreign),
+        Status::AnswerRefused(fault) => put_fault(say, b"answer refused at ", fault),
         Status::ReadFault(word) => put_counted(say, b"cannot read word ", *word as u64),
         Status::WriteFault(word) => put_counted(say, b"cannot write word ", *word as u64),
         Status::TooLong(word) => put_counted(say, b"too long: word ", *word as u64),
