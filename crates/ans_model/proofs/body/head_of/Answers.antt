@@ -1,4 +1,4 @@
-use Rattle.std.proofs.Common.{◌≡◌, sym, Some}
+use Rattle.std.proofs.Common.{sym}
 use Rattle.ans_model.proofs.Reading.{no_operator}
 use Rattle.ans_model.proofs.body.head_of.Goals as goal
 
