@@ -1,5 +1,5 @@
 -- Entries of predicates, one after another.
-use Rattle.std.proofs.Common.{◌≡◌, ◌<◌, ◌+◌, ◌∷◌, [], ◌&&◌, ℕ, zero, suc, Bool, true, false, List, length, drop, get_or, slice_get, Option, Some, None, refl, ap, sym, ◌∙◌, arith}
+use Rattle.std.proofs.Common.{◌≡◌, ◌<◌, ◌+◌, ◌∷◌, [], ◌&&◌, ℕ, zero, suc, List, length, drop, get_or, slice_get, Option, Some, None, refl, ap, sym, ◌∙◌, arith}
 use Rattle.chc_state.specs.declared.clause.PredDecl.{PredDecl}
 use Rattle.ans_model.specs.Models.{are_defined, is_settled}
 

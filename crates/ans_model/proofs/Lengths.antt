@@ -1,13 +1,12 @@
 -- A text has as many bytes at least as trees.
-use Rattle.std.proofs.Common.{◌≡◌, ◌<◌, ◌≤◌, ◌+◌, ◌^◌, ◌++◌, ◌∷◌, [], ℕ, ℤ, pos, Bool, true, false, not, List, length, decimal, codes, refl, ap, sym, subst, ◌∙◌, arith}
-use Rattle.std.specs.Prelude.{◌⊎◌, IsTrue}
+use Rattle.std.proofs.Common.{◌≡◌, ◌<◌, ◌≤◌, ◌+◌, ◌^◌, ◌++◌, ◌∷◌, [], ℕ, ℤ, Bool, true, false, List, length, decimal, ap, arith}
 use Rattle.std.proofs.Common.{inl, inr}
 use Rattle.chc_sexpr.proofs.Decimals.{whole_decimal}
-use Rattle.std.specs.List.{AllByRecursion, list_all, concat}
+use Rattle.std.specs.List.{AllByRecursion}
 use Rattle.std.proofs.lemmas.List.{length-append}
-use Rattle.chc_sexpr.proofs.Folds.{fold-Symbol, fold-Word, fold-Keyword, fold-Numeral, fold-Text, fold-Other, TreeCases, tree_ind}
+use Rattle.chc_sexpr.proofs.Folds.{fold-Symbol, fold-Word, fold-Keyword, fold-Numeral, fold-Text, fold-Other, tree_ind}
 use Rattle.chc_sexpr.proofs.Spelled.{opened, spelled-Symbol, spelled-Word, spelled-Keyword, spelled-Numeral, spelled-Text, spelled-Other, spelled-Group}
-use Rattle.chc_sexpr.specs.Spelling.{EachSpelled, LevelSpelled, TreeSpelled, Spells, IsDecimal, IsHexadecimal, IsBinary, is_keyword, string_of}
+use Rattle.chc_sexpr.specs.Spelling.{EachSpelled, LevelSpelled, TreeSpelled, Spells, IsDecimal, IsHexadecimal, IsBinary, is_keyword}
 use Rattle.chc_sexpr.specs.Tokens.{is_simple_symbol, is_reserved, is_whole_number}
 use Rattle.chc_sexpr.specs.declared.tree.Tree.{Tree}
 use Rattle.chc_sexpr.specs.declared.tree.Tree.TheOpen.{Tree-F}

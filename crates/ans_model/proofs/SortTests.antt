@@ -1,5 +1,5 @@
 -- Tests of equal sorts.
-use Rattle.std.proofs.Common.{◌≡◌, ◌≤◌, ℕ, Bool, true, false, List, length, map, refl, ap, arith}
+use Rattle.std.proofs.Common.{◌≡◌, Bool, true, false, List, length, map, refl, ap, arith}
 use Rattle.std.proofs.lemmas.List.{length-map}
 use Rattle.chc_sorts.specs.declared.sort.Sort.{Sort}
 use Rattle.chc_terms.specs.Sorted.{same_sorts}

@@ -1,4 +1,4 @@
-use Rattle.std.proofs.Common.{◌≡◌, ◌+◌, ◌&&◌, Bool, false, true, drop, ap, sym, ◌∙◌, slice_get}
+use Rattle.std.proofs.Common.{◌≡◌, ◌+◌, ◌&&◌, false, true, drop, ap, sym, ◌∙◌, slice_get}
 use Rattle.ans_model.specs.Models.{are_defined, is_settled}
 use Rattle.ans_model.proofs.Entries.{settled_at}
 use Rattle.ans_model.proofs.read.are_defined.Goals as goal

@@ -1,4 +1,4 @@
-use Rattle.std.proofs.Common.{◌≡◌, ◌≤◌, sym, subst, ap}
+use Rattle.std.proofs.Common.{sym, subst}
 use Rattle.std.specs.Prelude.{List}
 use Rattle.chc_sexpr.specs.declared.tree.Tree.{Tree}
 use Rattle.ans_model.specs.Counts.{count_all, HasRoom}

@@ -1,4 +1,4 @@
-use Rattle.std.proofs.Common.{◌≡◌, ◌<◌, ◌≤◌, ◌+◌, ◌-◌, ℕ, List, length, ap, sym, ◌∙◌, arith, Option, Some, None, get_or, take}
+use Rattle.std.proofs.Common.{◌≡◌, ◌<◌, ◌≤◌, ◌+◌, ◌-◌, ℕ, List, length, ap, ◌∙◌, arith, Some, None, get_or, take}
 use Rattle.std.specs.Option.{option_or}
 use Rattle.chc_sorts.specs.declared.sort.Sort.{Sort}
 use Rattle.ans_model.specs.Scopes.{Binder, flat, variable_from, variable_of}

@@ -1,12 +1,12 @@
-use Rattle.std.proofs.Common.{rules, ◌≡◌, ◌<◌, ◌+◌, ◌++◌, ◌∷◌, [], ℕ, List, length, ap, sym, subst, ◌∙◌, arith, Bool, true, false, Option, Some, None, slice_get, refl}
+use Rattle.std.proofs.Common.{rules, ◌≡◌, List, length, ap, sym, ◌∙◌, arith, false, Some, None}
 use Rattle.std.proofs.Common.{get_or}
 use Rattle.std.proofs.lemmas.Option.{slice_get-get_or}
 use Rattle.chc_sorts.specs.declared.sort.Sort.{Sort}
 use Rattle.chc_sorts.specs.declared.sort.Sort.TheVariants as sort
 use Rattle.std.specs.List.{list_any}
 use Rattle.std.specs.Str.{bytes_eq}
-use Rattle.ans_model.specs.Scopes.{Binder, binders_with, binds, sorts_in, variable_from}
-use Rattle.ans_model.proofs.Scoping.{sorts_with, length_with, binds_with, with_push, apart_push, bound, unbound, place_of, variable}
+use Rattle.ans_model.specs.Scopes.{Binder, binders_with, binds, variable_from}
+use Rattle.ans_model.proofs.Scoping.{length_with, binds_with, bound, unbound, place_of}
 use Rattle.ans_model.proofs.scope.Binders.find.Goals as goal
 
 pub returns-clause-value : goal.returns-clause-value

@@ -1,8 +1,6 @@
-use Rattle.std.proofs.Common.{rules, ◌≡◌, ◌<◌, ◌+◌, ◌++◌, ◌∷◌, [], ℕ, List, length, ap, sym, subst, ◌∙◌, arith, Bool, true, false, Option, Some, None, slice_get, refl}
-use Rattle.std.specs.List.{list_any}
-use Rattle.std.specs.Str.{bytes_eq}
-use Rattle.ans_model.specs.Scopes.{Binder, binders_with, binds, sorts_in, variable_from}
-use Rattle.ans_model.proofs.Scoping.{sorts_with, length_with, binds_with, with_push, apart_push, bound, unbound, place_of, variable}
+use Rattle.std.proofs.Common.{rules, ◌≡◌, ap, sym, ◌∙◌}
+use Rattle.ans_model.specs.Scopes.{binders_with, sorts_in}
+use Rattle.ans_model.proofs.Scoping.{sorts_with}
 use Rattle.ans_model.proofs.scope.Binders.into_sorts.Goals as goal
 
 pub returns : goal.returns

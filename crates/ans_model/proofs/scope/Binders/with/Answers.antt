@@ -1,10 +1,8 @@
-use Rattle.std.proofs.Common.{rules, ◌≡◌, ◌<◌, ◌+◌, ◌++◌, ◌∷◌, [], ℕ, List, length, ap, sym, subst, ◌∙◌, arith, Bool, true, false, Option, Some, None, slice_get, refl}
+use Rattle.std.proofs.Common.{rules, ◌≡◌, ◌++◌, ◌∷◌, [], ℕ, List, length, ap, ◌∙◌, arith}
 use Rattle.std.proofs.lemmas.List.{length-append}
 use Rattle.chc_sorts.specs.declared.sort.Sort.{Sort}
-use Rattle.std.specs.List.{list_any}
-use Rattle.std.specs.Str.{bytes_eq}
-use Rattle.ans_model.specs.Scopes.{Binder, binders_with, are_apart, binds, sorts_in, variable_from}
-use Rattle.ans_model.proofs.Scoping.{sorts_with, length_with, binds_with, with_push, apart_push, bound, unbound, place_of, variable}
+use Rattle.ans_model.specs.Scopes.{Binder, binders_with, are_apart, binds}
+use Rattle.ans_model.proofs.Scoping.{binds_with, with_push, apart_push}
 use Rattle.ans_model.proofs.scope.Binders.with.Goals as goal
 
 pub add-requires : goal.add-requires
