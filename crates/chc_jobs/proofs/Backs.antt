@@ -26,7 +26,8 @@ use Rattle.chc_state.specs.Definitions.{Defines, DefinedAs, Holds, Decided, Asse
 use Rattle.chc_state.specs.Back.{back, back_over, with_constant, with_constants, constant, or_none, LeadsBack, StepLeadsBack}
 use Rattle.chc_state.proofs.Members.{In-at, all-at, any-at}
 use Rattle.chc_state.proofs.Places.{beside-at, element-at, end-at, at-changed, at-unchanged}
-use Rattle.pass_slice.proofs.Removing.{is_live-retired, length-retired, positions-after, are_sorted-after}
+use Rattle.chc_state.proofs.Retired.{length-retired}
+use Rattle.pass_slice.proofs.Removing.{is_live-retired, positions-after, are_sorted-after}
 use Rattle.chc_script.specs.Scripts.{ScriptView}
 use Rattle.chc_script.specs.Assertions.{KeepsAssertions}
 use Rattle.ans_model.specs.Models.{SaysModel, IsAnswer, IsAnswerDef, is_answer_sort, is_answer_term, is_answer_step, is_small}
@@ -46,7 +47,7 @@ below_or_at k n h = elim (cases_Bool (nat_lt k n)) [ inl e ↦ inl (ltb-true k n
 
 -- a constant can be written where its parameters can
 answer-Lit : (b : Bool) → is_answer_term (Lit b) ≡ true
-  unfolding is_answer_term
+unfolding is_answer_term
 answer-Lit b = ap is_answer_term (sym (rolls-Lit b)) ∙ fold-roll-Term Bool is_answer_step (Term-F.Lit b)
 
 small-Lit : (b : Bool) → is_small (Lit b) ≡ true

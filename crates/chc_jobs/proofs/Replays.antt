@@ -12,7 +12,7 @@ use Rattle.chc_state.specs.States.{StateView, is_live, live_decl}
 use Rattle.chc_state.specs.Steps.{IsLegal, Goes, after, removed_by}
 use Rattle.chc_state.proofs.Members.{all-at, all-from}
 use Rattle.chc_state.proofs.Places.{same_element}
-use Rattle.pass_slice.proofs.Removing.{length-retired}
+use Rattle.chc_state.proofs.Retired.{length-retired}
 use Rattle.chc_jobs.specs.Replaying.{IsFirstIllegal, IsTaken, is_below}
 
 pub Goes-more : (s : StateView) (xs : List Step) (z : StateView) (x : Step) → Goes s xs z → IsLegal z x → Goes s (xs ++ x ∷ []) (after z x)

@@ -1,25 +1,32 @@
 -- The positions of a first script's predicates are of sort Int.
-use Rattle.std.proofs.Common.{◌≡◌, ℕ, zero, suc, Bool, true, false, cond, List, [], ◌∷◌, ◌++◌, refl, subst}
+use Rattle.std.proofs.Common.{◌≡◌, ℕ, zero, suc, Bool, true, false, cond, ◌&&◌, List, [], ◌∷◌, ◌++◌, refl, subst}
 use Rattle.std.specs.Prelude.{Option, Some, None, ⊤}
 use Rattle.std.specs.List.{list_all}
 use Rattle.std.specs.Option.{option_map}
 use Rattle.std.specs.Str.{bytes_eq}
 use Rattle.std.specs.Prelude.{codes}
-use Rattle.std.proofs.lemmas.Bool.{and_parts, and_from}
+use Rattle.std.proofs.lemmas.Bool.{and_parts, and_from, or_left}
+use Rattle.chc_sorts.specs.declared.sort.Sort.TheVariants as sort
+use Rattle.chc_terms.specs.Sorted.{same_sort}
+use Rattle.chc_terms.proofs.SameSort.{same_itself}
 use Rattle.chc_sexpr.specs.declared.tree.Tree.{Tree}
 use Rattle.chc_state.specs.declared.clause.PredDecl.{PredDecl}
 use Rattle.chc_state.specs.Sorts.{positions}
 use Rattle.chc_script.specs.Clauses.{DeclaredView, ints, with_predicate}
 use Rattle.chc_script.specs.Readings.{◌>>=◌}
 use Rattle.chc_script.specs.Shapes.{symbol_of, is_symbol, form_of}
-use Rattle.chc_script.specs.Scripts.{ScriptView, DraftView, fresh, is_fresh, is_open, set_logic, may_declare, declare_at, declare_parts, declare, positions_of, assert, with_assertion, check, command_named, command, commands, closed, script_of, ReadsFirst}
+use Rattle.chc_script.specs.Scripts.{ScriptView, DraftView, fresh, is_fresh, is_open, at_stage, set_logic, may_declare, declare_at, declare_parts, declare, positions_of, assert, with_assertion, check, command_named, command, commands, closed, script_of, ReadsFirst}
 use Rattle.chc_script.specs.Clauses.{assertion}
+use Rattle.chc_script.specs.declared.first.draft.Stage.TheVariants as stage
 use Rattle.ans_model.specs.Models.{is_answer_sort}
 use Rattle.chc_jobs.specs.Replaying.{AreWritable}
 
+int_written : is_answer_sort sort.Int ≡ true
+int_written = or_left (same_sort sort.Int sort.Int) (same_sort sort.Int sort.Bool) (same_itself sort.Int)
+
 ints_written : (n : ℕ) → list_all is_answer_sort (ints n) ≡ true
 ints_written zero = refl
-ints_written (suc n) = ints_written n
+ints_written (suc n) = and_from (is_answer_sort sort.Int) (list_all is_answer_sort (ints n)) int_written (ints_written n)
 
 -- one more predicate on positions of sort Int
 more_written : (ds : List PredDecl) (n : ℕ) → AreWritable (positions ds) → AreWritable (positions (ds ++ record { sorts = ints n; live = true } ∷ []))
@@ -29,11 +36,11 @@ more_written (d ∷ ds) n h =
     and_from (list_all is_answer_sort d.sorts) (list_all (list_all is_answer_sort) (positions (ds ++ record { sorts = ints n; live = true } ∷ []))) parts.0 (more_written ds n parts.1)
 
 -- the draft, where there is one, has such predicates alone
-Fine : Option DraftView → Type 0
+abbrev Fine : Option DraftView → Type 0
 Fine None = ⊤
 Fine (Some d) = AreWritable (positions d.declared.preds)
 
-FineScript : Option ScriptView → Type 0
+abbrev FineScript : Option ScriptView → Type 0
 FineScript None = ⊤
 FineScript (Some X) = AreWritable (positions X.state.preds)
 
@@ -59,13 +66,13 @@ fine_end (Some d) f h k = k d h
 
 fine-set_logic : (d : DraftView) (args : List Tree) → Fine (Some d) → Fine (set_logic d args)
 fine-set_logic d [] h = tt
-fine-set_logic d (logic ∷ []) h = fine_cond _ _ None h tt
+fine-set_logic d (logic ∷ []) h = fine_cond (is_fresh d.stage && is_symbol (codes "HORN") logic) (Some (at_stage stage.Open d)) None h tt
 fine-set_logic d (a ∷ b ∷ more) h = tt
 
 fine-declare_at : (d : DraftView) (name : Option (List ℕ)) (n : Option ℕ) → Fine (Some d) → Fine (declare_at d name n)
 fine-declare_at d None n h = tt
 fine-declare_at d (Some name) None h = tt
-fine-declare_at d (Some name) (Some n) h = fine_cond (may_declare d name) _ None (more_written d.declared.preds n h) tt
+fine-declare_at d (Some name) (Some n) h = fine_cond (may_declare d name) (Some (record { stage = d.stage; declared = with_predicate d.declared name n; assertions = d.assertions; clauses = d.clauses })) None (more_written d.declared.preds n h) tt
 
 fine-declare : (d : DraftView) (args : List Tree) → Fine (Some d) → Fine (declare d args)
 fine-declare d [] h = tt
@@ -82,7 +89,7 @@ fine-assert d (a ∷ []) h =
 fine-assert d (a ∷ b ∷ more) h = tt
 
 fine-check : (d : DraftView) (args : List Tree) → Fine (Some d) → Fine (check d args)
-fine-check d [] h = fine_cond (is_open d.stage) _ None h tt
+fine-check d [] h = fine_cond (is_open d.stage) (Some (at_stage stage.Checked d)) None h tt
 fine-check d (a ∷ more) h = tt
 
 fine-named : (d : DraftView) (form : List ℕ × List Tree) → Fine (Some d) → Fine (command_named d form)
