@@ -13,8 +13,8 @@ use Rattle.chc_sexpr.specs.declared.tree.Tree.{Tree}
 use Rattle.chc_state.specs.declared.clause.PredDecl.{PredDecl}
 use Rattle.chc_state.specs.Sorts.{positions}
 use Rattle.chc_script.specs.Clauses.{DeclaredView, ints, with_predicate}
-use Rattle.chc_script.specs.Readings.{◌>>=◌}
-use Rattle.chc_script.specs.Shapes.{symbol_of, is_symbol, form_of}
+use Rattle.chc_sexpr.specs.Readings.{◌>>=◌}
+use Rattle.chc_sexpr.specs.Shapes.{symbol_of, is_symbol, form_of}
 use Rattle.chc_script.specs.Scripts.{ScriptView, DraftView, fresh, is_fresh, is_open, at_stage, set_logic, may_declare, declare_at, declare_parts, declare, positions_of, assert, with_assertion, check, command_named, command, commands, closed, script_of, ReadsFirst}
 use Rattle.chc_script.specs.Clauses.{assertion}
 use Rattle.chc_script.specs.declared.first.draft.Stage.TheVariants as stage
