@@ -18,7 +18,7 @@ use Rattle.chc_terms.specs.declared.fun_sort.FunSort.{FunSort}
 use Rattle.chc_terms.specs.declared.term.Kind.{Kind}
 use Rattle.chc_terms.specs.declared.term.Term.{Term, fold-roll-Term, Term-F}
 use Rattle.chc_terms.specs.declared.term.Term.TheVariants as term
-use Rattle.chc_terms.specs.Sorted.{Context, sort_of, sorts_of, op_sort, op_fits, when, are_truths, equation_sort, same_sort, same_sorts, quantifier_sort, sort_fits, sorts_fit, is_declared_step, sort_depth, sort_depth_step}
+use Rattle.chc_terms.specs.Sorted.{Context, all_some, sort_of, sorts_of, op_sort, op_fits, when, are_truths, equation_sort, same_sort, same_sorts, quantifier_sort, sort_fits, sorts_fit, is_declared_step, sort_depth, sort_depth_step}
 use Rattle.chc_terms.proofs.SameSort.{same_from_test, same_sorts_from_test, same_itself, both_true}
 use Rattle.chc_terms.proofs.SortLaws.{sort_of-Var, sort_of-Num, sort_of-Lit, sort_of-App, sort_of-Quant, sorts_fit-Var, sorts_fit-Num, sorts_fit-Lit, sorts_fit-App, sorts_fit-Quant}
 use Rattle.ans_model.specs.Bodies.{Reading, number, literal_of, symbol_term, op_named, turned_named, turned, exchanged, named_term, applied, negated, negation, operation, quantified, kind_of, quantification, headed, group_term, beside, typed_of, typed_all, is_read_op}
