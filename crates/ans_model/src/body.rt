@@ -13,8 +13,8 @@ ghost use Rattle.chc_sexpr.specs.Readings.{Gives};
 ghost use Rattle.ans_model.specs.Scopes.{Binder, flat, sorts_in};
 ghost use Rattle.ans_model.specs.Numerals.{numeral_of, numeral_value};
 
-use crate::scope::{Binders, innermost, read_binders};
 use crate::numeral::{numeral_of, numeral_value};
+use crate::scope::{Binders, innermost, read_binders};
 use crate::sorts::same_sort;
 use crate::typed::Typed;
 use chc_sexpr::{Tree, symbol_of, word_of};

@@ -241,14 +241,14 @@ output_refused g job texts o a b c (status.TooLong k) r short made h = absurd h
 output_refused g job texts o a b c status.NoMemory r short made h = λ t.
     let at = h (rw r.telling t) in
     inr (
-    at.0,
-    record {
-      texts = texts;
-      outcome = o;
-      short = short t;
-      made = made t;
-      stops = stops-back g.outputs texts at.0 a b c (λ u i. r.files u.name) at.1;
-    },
+      at.0,
+      record {
+        texts = texts;
+        outcome = o;
+        short = short t;
+        made = made t;
+        stops = stops-back g.outputs texts at.0 a b c (λ u i. r.files u.name) at.1;
+      },
     )
 
 -- all was read, computed and written

@@ -215,11 +215,7 @@ fn lift_files(
     Ok(files)
 }
 
-fn run_lift(
-    alloc: Global,
-    files: &mut MemFiles,
-    say: &mut MemSink,
-) -> Result<Status, NoMemory> {
+fn run_lift(alloc: Global, files: &mut MemFiles, say: &mut MemSink) -> Result<Status, NoMemory> {
     let words = words(alloc, &["lift", "script", "trace", "answer", "out"])?;
     Ok(run(alloc, words.as_slice(), files, say))
 }
@@ -257,7 +253,7 @@ fn steps_exchanged(rt: HostRuntime) -> Result<(), Fail> {
 (define-fun log ((x0 Int)) Bool true)\n\
 )\n\
 "
-    .as_slice();
+        .as_slice();
     assert!(rt; lifts(alloc, EXCHANGED, ANSWER, out, LIFTED_LINE)?);
     Ok(())
 }
@@ -313,7 +309,7 @@ fn no_steps(rt: HostRuntime) -> Result<(), Fail> {
 (check-sat)\n\
 \")\n\
 "
-    .as_slice();
+        .as_slice();
     let answer = b"sat (model (define-fun dead ((a Int)) Bool false)\n\
 (define-fun inv ((a Int)) Bool (<= a 10)) (define-fun log ((b Int)) Bool (< 0 1)))\n"
         .as_slice();
@@ -324,7 +320,7 @@ fn no_steps(rt: HostRuntime) -> Result<(), Fail> {
 (define-fun log ((x0 Int)) Bool (< 0 1))\n\
 )\n\
 "
-    .as_slice();
+        .as_slice();
     assert!(rt; lifts(alloc, trace, answer, out, LIFTED_LINE)?);
     Ok(())
 }
@@ -395,7 +391,12 @@ fn refused_answers(rt: HostRuntime) -> Result<(), Fail> {
     assert!(rt; refuses_answer(alloc, b"sat ()")?);
     assert!(rt; refuses_answer(alloc, b"sat ((define-fun inv ((a Int)) Bool (<= a")?);
     assert!(rt; refuses_answer(alloc, b"sat ((define-fun inv ((a Bool)) Bool a))")?);
-    let twice = exchanged(alloc, ANSWER, b"))\n", b") (define-fun inv ((a Int)) Bool true))")?;
+    let twice = exchanged(
+        alloc,
+        ANSWER,
+        b"))\n",
+        b") (define-fun inv ((a Int)) Bool true))",
+    )?;
     assert!(rt; refuses_answer(alloc, twice.bytes())?);
     let other = exchanged(alloc, ANSWER, b"inv", b"log")?;
     assert!(rt; refuses_answer(alloc, other.bytes())?);

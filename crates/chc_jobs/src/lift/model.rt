@@ -89,12 +89,7 @@ fn open_trace(alloc: Global, trace: &[u8]) -> Result<Trace, LiftErr>
 }
 
 /// The definitions that the answer says of a state's predicates.
-fn open_answer(
-    alloc: Global,
-    answer: &[u8],
-    state: &State,
-    names: &Names,
-) -> Result<Defs, LiftErr>
+fn open_answer(alloc: Global, answer: &[u8], state: &State, names: &Names) -> Result<Defs, LiftErr>
     requires short { length answer.now < 2 ^ 32 }
     requires named { length names.now ≡ length state.now.preds }
     requires names { AreNames names.now }
@@ -178,7 +173,12 @@ fn open_own_trace(
 }
 
 /// The definitions of the script's predicates that the answer comes to.
-fn carry(alloc: Global, script: &Script, followed: &Followed, answer: &[u8]) -> Result<Defs, LiftErr>
+fn carry(
+    alloc: Global,
+    script: &Script,
+    followed: &Followed,
+    answer: &[u8],
+) -> Result<Defs, LiftErr>
     requires short { length answer.now < 2 ^ 32 }
     requires plain { script.now.state.sig ≡ no_datatypes }
     requires named { length script.now.names ≡ length script.now.state.preds }
@@ -246,12 +246,7 @@ fn carry_and_print(
 ///
 /// Errors, judged in this order: `Script`, `Trace` and `Answer` where the bytes are none, each with the fault
 /// `NotYet` at place 0, `Foreign` after the trace is read, and `NoMemory`.
-pub fn lift(
-    alloc: Global,
-    script: &[u8],
-    trace: &[u8],
-    answer: &[u8],
-) -> Result<Lifted, LiftErr>
+pub fn lift(alloc: Global, script: &[u8], trace: &[u8], answer: &[u8]) -> Result<Lifted, LiftErr>
     requires script { length script.now < 2 ^ 32 }
     requires trace { length trace.now < 2 ^ 32 }
     requires answer { length answer.now < 2 ^ 32 }

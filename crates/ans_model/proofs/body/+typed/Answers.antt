@@ -20,10 +20,10 @@ read_under-returns-in-Some-clause-value t c =
     let pushed : c.push.new.self ≡ c.args.scope.now ++ c.args.binders ∷ [] = c.in_ok-push.ensures.added in
     let inner = body_read c.args.scope.now c.push.new.self c.args.binders pushed in
     let read : Some c.in-Some.body ≡ typed_of c.args.body.now (flat c.args.scope.now ++ c.args.binders) =
-      sym c.in-Some.is ∙ c.in_ok-body.ensures.value ∙ ap (typed_of c.args.body.now) inner in
+    sym c.in-Some.is ∙ c.in_ok-body.ensures.value ∙ ap (typed_of c.args.body.now) inner in
     let sorts : c.in_ok-sorts.sorts ≡ sorts_in c.args.binders = c.in_ok-sorts.ensures ∙ c.sorts.ensures in
     let same : quantified_over k c.in_ok-sorts.sorts c.in-Some.body ≡ quantified_under k c.args.binders c.args.body.now (flat c.args.scope.now) =
-      ap (λ (l : List Sort). quantified_over k l c.in-Some.body) sorts ∙ ap (λ o. o >>= quantified k c.args.binders) read in
+    ap (λ (l : List Sort). quantified_over k l c.in-Some.body) sorts ∙ ap (λ o. o >>= quantified k c.args.binders) read in
     subst (Gives c.quantified.result) same c.quantified.ensures
 
 pub read_under-returns-in-None-clause-value : goal.read_under-returns-in-None-clause-value
@@ -31,7 +31,7 @@ read_under-returns-in-None-clause-value t c =
     let pushed : c.push.new.self ≡ c.args.scope.now ++ c.args.binders ∷ [] = c.in_ok-push.ensures.added in
     let inner = body_read c.args.scope.now c.push.new.self c.args.binders pushed in
     let read : None ≡ typed_of c.args.body.now (flat c.args.scope.now ++ c.args.binders) =
-      sym c.in-None.is ∙ c.in_ok-body.ensures.value ∙ ap (typed_of c.args.body.now) inner in
+    sym c.in-None.is ∙ c.in_ok-body.ensures.value ∙ ap (typed_of c.args.body.now) inner in
     ap (λ o. o >>= quantified c.args.kind c.args.binders) read
 
 pub read_operation-returns-in-Some-clause-value : goal.read_operation-returns-in-Some-clause-value
@@ -69,9 +69,11 @@ read_args-read_typed-requires t c =
 pub read_quantification-read_under-requires : goal.read_quantification-read_under-requires
 read_quantification-read_under-requires t c =
     let trees = c.args.trees.now in
-    let two = count_two trees c.binders-item.result c.body-item.result c.in-len3.len_at_least c.binders-item.is c.body-item.is in
-    (omega arith, room_body (length (flat c.args.scope.now)) trees c.binders-item.result c.body-item.result c.in_ok-binders-in-len3.field-0 c.in-Some.binders
-        c.requires.room c.in-len3.len_at_least c.binders-item.is c.body-item.is c.in_ok-binders-in-len3.ensures c.in-Some.is)
+    let two = count_two trees c.binders-item.result c.body-item.result c.in-len3.len_at_least c.binders-item.is c.body-item.is in (
+      omega arith,
+      room_body (length (flat c.args.scope.now)) trees c.binders-item.result c.body-item.result c.in_ok-binders-in-len3.field-0 c.in-Some.binders
+          c.requires.room c.in-len3.len_at_least c.binders-item.is c.body-item.is c.in_ok-binders-in-len3.ensures c.in-Some.is,
+    )
 
 pub read_under-read_typed-requires : goal.read_under-read_typed-requires
 read_under-read_typed-requires t c =

@@ -10,5 +10,5 @@ returns-then-ne-2-clause-refused c =
       source,
       refl,
       other_target c.args.script.now c.args.trace.steps c.in_ok-state.field-0.state c.args.trace.target c.in_ok-state.field-0.text
-      (rw c.as_slice.ensures at c.in_ok-state.ensures.goes) c.in_ok-state.ensures.printed apart,
+          (rw c.as_slice.ensures at c.in_ok-state.ensures.goes) c.in_ok-state.ensures.printed apart,
     )
