@@ -23,3 +23,4 @@ pub mod WrittenTerms
 pub mod WrittenTables
 pub mod WrittenDefs
 pub mod WrittenAnswers
+pub mod Fitting

@@ -1,7 +1,11 @@
 //! Answers that are read, and texts that are no answer.
 
-ghost use Rattle.std.specs.Prelude.{◌≡◌, ◌∷◌, [], length, IfOk};
+ghost use Rattle.std.specs.Prelude.{◌≡◌, ◌∷◌, [], length, IfOk, IsTrue};
+ghost use Rattle.std.specs.List.{list_all};
+ghost use Rattle.chc_sorts.specs.Signature.{no_datatypes};
 ghost use Rattle.chc_sexpr.specs.Names.{AreNames};
+ghost use Rattle.chc_terms.specs.Sorted.{sort_fits};
+ghost use Rattle.chc_state.specs.Sorts.{positions_fit};
 
 use crate::read_defs;
 use chc_sorts::{List, Name, NoMemory, Op, Sig, Sort};
@@ -32,7 +36,10 @@ fn names(alloc: Global) -> Result<List<Name>, NoMemory>
 }
 
 /// A predicate on one Int.
-fn on_number(alloc: Global, live: bool) -> Result<PredDecl, NoMemory> {
+#[tactic(auto, using(crate::proofs::Fitting::int_fits))]
+fn on_number(alloc: Global, live: bool) -> Result<PredDecl, NoMemory>
+    ensures { IfOk result (λ decl. IsTrue (list_all (sort_fits no_datatypes) decl.sorts)) }
+{
     let mut sorts = List::new(alloc);
     sorts.push(Sort::Int)?;
     Ok(PredDecl { sorts, live })
@@ -40,7 +47,8 @@ fn on_number(alloc: Global, live: bool) -> Result<PredDecl, NoMemory> {
 
 /// The predicates `p` on an Int and `q` on nothing, which are live, and `r` on an Int, which isn't.
 fn preds(alloc: Global) -> Result<List<PredDecl>, NoMemory>
-    ensures { IfOk result (λ preds. length preds ≡ 3) }
+    ensures count { IfOk result (λ preds. length preds ≡ 3) }
+    ensures fit { IfOk result (λ preds. IsTrue (positions_fit no_datatypes preds)) }
 {
     let mut preds = List::new(alloc);
     preds.push(on_number(alloc, true)?)?;
