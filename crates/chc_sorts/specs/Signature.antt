@@ -2,9 +2,9 @@
 use Rattle.std.specs.Prelude.{◌≡◌, ℕ, List, [], ◌∷◌, Some, slice_get}
 use Rattle.chc_sorts.specs.declared.sort.Sort.{Sort}
 use Rattle.chc_sorts.specs.declared.sort.Sort.TheVariants as sort
-use Rattle.chc_sorts.specs.declared.sig.Data.{Data}
-use Rattle.chc_sorts.specs.declared.sig.Ctor.{Ctor}
-use Rattle.chc_sorts.specs.declared.sig.Field.{Field}
+use Rattle.chc_sorts.specs.declared.data.Data.{Data}
+use Rattle.chc_sorts.specs.declared.data.Ctor.{Ctor}
+use Rattle.chc_sorts.specs.declared.data.Field.{Field}
 
 -- the datatypes, and how many each group has
 pub record Signature : Type 0 where

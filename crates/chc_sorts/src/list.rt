@@ -1,6 +1,6 @@
 //! A list that contracts see as the list of its elements.
 
-ghost use Rattle.std.specs.Prelude.{◌≡◌, [], ◌∷◌, ◌++◌, ◌<◌, length, slice_get, slice_set, remove, MatchOption, IfOk, IfErr, OnOk, OnErr, OnSome};
+ghost use Rattle.std.specs.Prelude.{◌≡◌, [], ◌∷◌, ◌++◌, ◌<◌, length, take, slice_get, slice_set, remove, MatchOption, IfOk, IfErr, OnOk, OnErr, OnSome};
 ghost use Rattle.std.specs.Option.{option_copied};
 
 use crate::memory::NoMemory;
@@ -88,6 +88,27 @@ impl<T> List<T> {
         ensures changed { self.new ≡ slice_set self.old i x }
     {
         mem::replace(&mut self.items[i], x)
+    }
+
+    /// Adds the elements of `more` at the end. Where memory is refused nothing changes. Errors: `NoMemory`.
+    pub fn append(&mut self, more: List<T>) -> Result<(), NoMemory>
+    where
+        T: Drop,
+        ensures added { OnOk result (self.new ≡ self.old ++ more) }
+        ensures same { OnErr result (self.new ≡ self.old) }
+    {
+        let mut items = more.into_vec();
+        self.items.append(&mut items)?;
+        Ok(())
+    }
+
+    /// Keeps the first `len` elements, or all where there are no more.
+    pub fn truncate(&mut self, len: usize)
+    where
+        T: Drop,
+        ensures { self.new ≡ take len self.old }
+    {
+        self.items.truncate(len);
     }
 
     /// The elements as a slice.

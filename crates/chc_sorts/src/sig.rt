@@ -1,110 +1,44 @@
 //! Signatures: datatypes in groups, each of which has a value.
 
-ghost use Rattle.std.specs.Prelude.{◌≡◌, IfOk};
-ghost use Rattle.chc_sorts.specs.Signature.{Signature, no_datatypes};
+ghost use Rattle.std.specs.Prelude.{◌≡◌, true, IfOk, OnSome, option_copied, slice_get};
+ghost use Rattle.std.specs.List.{list_all};
+ghost use Rattle.chc_sorts.specs.declared.sort.Sort.TheVariants as sort;
+ghost use Rattle.chc_sorts.specs.Signature.{Signature, IsInhabited, no_datatypes};
+ghost use Rattle.chc_sorts.specs.Functions.{functions, meaning_of};
+ghost use Rattle.chc_sorts.specs.Listing.{is_narrow};
+ghost use Rattle.chc_sorts.specs.Named.{Answers, datatype_names, sort_read};
+ghost use Rattle.chc_sorts.specs.Groups.{AddsGroup};
 
+use crate::build::declared;
+use crate::data::{Data, copy_datatypes};
+use crate::functions::FunctionTable;
+use crate::group::{check_group, extend};
 use crate::list::{List, Name};
+use crate::meaning::Meaning;
 use crate::memory::NoMemory;
+use crate::named::sort_read;
+use crate::names::NameTable;
+use crate::refusal::SigErr;
 use crate::sort::Sort;
+use crate::spec::{DataSpec, SortSpec};
+use crate::taken::table_of;
 use std::alloc::Global;
 use std::marker::Model;
-
-/// A field of a constructor: its selector's name, and its sort.
-#[derive(Debug, Drop)]
-pub struct Field {
-    pub name: Name,
-    pub sort: Sort,
-}
-
-/// A constructor: its name, and its fields in order.
-#[derive(Debug, Drop)]
-pub struct Ctor {
-    pub name: Name,
-    pub fields: List<Field>,
-}
-
-/// A datatype: its name, and its constructors in order.
-#[derive(Debug, Drop)]
-pub struct Data {
-    pub name: Name,
-    pub ctors: List<Ctor>,
-}
-
-impl Field {
-    /// An equal field on fresh memory.
-    pub fn copy(&self, alloc: Global) -> Result<Field, NoMemory>
-        ensures { IfOk result (λ f. f ≡ self.now) }
-    {
-        let name = self.name.copy(alloc)?;
-        let sort = self.sort.copy(alloc)?;
-        Ok(Field { name, sort })
-    }
-}
-
-/// Equal fields on fresh memory, in the same order.
-fn copy_fields(alloc: Global, fields: &List<Field>) -> Result<List<Field>, NoMemory>
-    ensures { IfOk result (λ l. l ≡ fields.now) }
-{
-    let mut copies = List::new(alloc);
-    for field in fields.as_slice() {
-        copies.push(field.copy(alloc)?)?;
-    }
-    Ok(copies)
-}
-
-impl Ctor {
-    /// An equal constructor on fresh memory.
-    pub fn copy(&self, alloc: Global) -> Result<Ctor, NoMemory>
-        ensures { IfOk result (λ k. k ≡ self.now) }
-    {
-        let name = self.name.copy(alloc)?;
-        let fields = copy_fields(alloc, &self.fields)?;
-        Ok(Ctor { name, fields })
-    }
-}
-
-/// Equal constructors on fresh memory, in the same order.
-fn copy_ctors(alloc: Global, ctors: &List<Ctor>) -> Result<List<Ctor>, NoMemory>
-    ensures { IfOk result (λ l. l ≡ ctors.now) }
-{
-    let mut copies = List::new(alloc);
-    for ctor in ctors.as_slice() {
-        copies.push(ctor.copy(alloc)?)?;
-    }
-    Ok(copies)
-}
-
-impl Data {
-    /// An equal datatype on fresh memory.
-    pub fn copy(&self, alloc: Global) -> Result<Data, NoMemory>
-        ensures { IfOk result (λ d. d ≡ self.now) }
-    {
-        let name = self.name.copy(alloc)?;
-        let ctors = copy_ctors(alloc, &self.ctors)?;
-        Ok(Data { name, ctors })
-    }
-}
-
-/// Equal datatypes on fresh memory, in the same order.
-fn copy_datatypes(alloc: Global, datatypes: &List<Data>) -> Result<List<Data>, NoMemory>
-    ensures { IfOk result (λ l. l ≡ datatypes.now) }
-{
-    let mut copies = List::new(alloc);
-    for datatype in datatypes.as_slice() {
-        copies.push(datatype.copy(alloc)?)?;
-    }
-    Ok(copies)
-}
 
 /// Datatypes in groups, in order of declaration. Each datatype has a value.
 #[derive(Debug, Drop)]
 pub struct Sig {
     datatypes: List<Data>,
     groups: List<u32>,
+    /// The names of the datatypes.
+    names: NameTable,
+    /// The constructors and selectors, by name.
+    functions: FunctionTable,
 }
 
 impl Model for Sig {
-    ghost use Rattle.chc_sorts.specs.Signature.{Signature, AllInhabited};
+    ghost use Rattle.chc_sorts.specs.Signature.{Signature};
+    ghost use Rattle.chc_sorts.specs.Kept.{IsKept};
     ghost use Rattle.chc_sorts.specs.contracts.sort.Sort as sort;
     ghost use Rattle.std.specs.Coded.{codes};
 
@@ -114,7 +48,7 @@ impl Model for Sig {
 
     ghost view = { λ s. record { datatypes = s.datatypes; groups = s.groups } };
 
-    ghost invariant = { λ s. AllInhabited s.datatypes };
+    ghost invariant = { λ s. IsKept (record { datatypes = s.datatypes; groups = s.groups }) s.names s.functions };
 }
 
 impl Sig {
@@ -125,14 +59,91 @@ impl Sig {
         Sig {
             datatypes: List::new(alloc),
             groups: List::new(alloc),
+            names: NameTable::new(alloc),
+            functions: FunctionTable::new(alloc),
         }
     }
 
-    /// The datatypes by number.
+    /// The datatypes by number. Each has at most 256 constructors, and each of these at most 64 fields.
     pub fn datatypes(&self) -> &List<Data>
-        ensures { result.now ≡ self.now.datatypes }
+        ensures value { result.now ≡ self.now.datatypes }
+        ensures narrow { list_all is_narrow result.now ≡ true }
     {
         &self.datatypes
+    }
+
+    /// The sizes of the groups, in order of declaration.
+    pub fn groups(&self) -> &List<u32>
+        ensures { result.now ≡ self.now.groups }
+    {
+        &self.groups
+    }
+
+    /// The names of the datatypes, by number.
+    pub(crate) fn names(&self) -> &NameTable
+        ensures { result.now ≡ datatype_names self.now }
+    {
+        &self.names
+    }
+
+    /// The constructors and selectors, by name.
+    pub(crate) fn functions(&self) -> &FunctionTable
+        ensures { result.now ≡ functions self.now }
+    {
+        &self.functions
+    }
+
+    /// The datatype of number `d`, counted from 0, or `None` where there is none. It has a value.
+    pub fn datatype(&self, d: u32) -> Option<&Data>
+        ensures value { option_copied result ≡ slice_get self.now.datatypes d }
+        ensures inhabited { OnSome result (∥ IsInhabited self.now.datatypes (sort.Data d) ∥₁) }
+    {
+        self.datatypes.get(d as usize)
+    }
+
+    /// The constructor or selector of a name, or `None` where it is neither's.
+    pub fn meaning(&self, name: &[u8]) -> Option<Meaning>
+        ensures { result ≡ meaning_of self.now name.now }
+    {
+        self.functions.get(name)
+    }
+
+    /// The sort that `spec` stands for. Errors, the first of them: `UnknownSort` with the first name, from left to
+    /// right, that no sort has; `ArrayIndex` where an array's index sort isn't Int; `SortTooDeep` where the sort
+    /// is more than 16 deep; `NoMemory`.
+    pub fn sort(&self, alloc: Global, spec: &SortSpec) -> Result<Sort, SigErr>
+        ensures { Answers result (sort_read (datatype_names self.now) spec.now) }
+    {
+        sort_read(alloc, &self.names, spec)
+    }
+
+    /// Adds the datatypes of one group, whose fields may be of the group's own datatypes. `preds` holds the names of
+    /// the predicates declared so far, which are taken. After a refusal nothing has changed. Errors, the first of
+    /// them: `NameTaken` with the first name that is taken in its name space, where a datatype stands before its
+    /// constructors and a constructor before its fields; `UnknownSort` with the first name that no sort has;
+    /// `ArrayIndex` where an array's index sort isn't Int; `SortTooDeep` where a field's sort is more than 16 deep;
+    /// `TooMany` with the first limit of datatypes, constructors and fields that is passed; `NotWellFounded`
+    /// with the first datatype that has no value; `NoMemory`.
+    pub fn add_group(
+        &mut self,
+        alloc: Global,
+        group: &[DataSpec],
+        preds: &List<Name>,
+    ) -> Result<(), SigErr>
+        ensures { AddsGroup self.old group.now preds.now result self.new }
+    {
+        let preds = table_of(alloc, preds.as_slice())?;
+        let names = check_group(alloc, self, &preds, group)?;
+        let made = declared(alloc, &names, group)?;
+        extend(
+            alloc,
+            &mut self.datatypes,
+            &mut self.groups,
+            &mut self.functions,
+            made,
+        )?;
+        self.names = names;
+        Ok(())
     }
 
     /// An equal signature on fresh memory.
@@ -141,6 +152,13 @@ impl Sig {
     {
         let datatypes = copy_datatypes(alloc, &self.datatypes)?;
         let groups = self.groups.copy(alloc)?;
-        Ok(Sig { datatypes, groups })
+        let names = self.names.copy()?;
+        let functions = self.functions.copy()?;
+        Ok(Sig {
+            datatypes,
+            groups,
+            names,
+            functions,
+        })
     }
 }

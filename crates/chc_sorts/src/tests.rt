@@ -1,6 +1,7 @@
-//! Lists, and copies of sorts, operators and signatures.
+//! Lists, copies of sorts, operators and signatures, and names of functions.
 
-use crate::{Boxed, Ctor, Data, Field, List, Name, NoMemory, Op, Sig, Sort, copy_sorts};
+use crate::functions::FunctionTable;
+use crate::{Boxed, Ctor, Data, Field, List, Meaning, Name, NoMemory, Op, Sig, Sort, copy_sorts};
 use std::alloc::Global;
 use std::test::Fail;
 
@@ -62,5 +63,24 @@ fn copies_are_equal(rt: HostRuntime) -> Result<(), Fail> {
     assert_eq!(rt; copy_sorts(alloc, &sorts)?.len(), 1);
     assert!(rt; matches!(&Op::Const(Sort::Int).copy(alloc)?, Op::Const(Sort::Int)));
     let _none = Sig::new(alloc).copy(alloc)?;
+    Ok(())
+}
+
+#[test]
+fn functions_are_found_by_name(rt: HostRuntime) -> Result<(), Fail> {
+    let alloc = rt.alloc();
+    assert_eq!(rt; Sig::new(alloc).meaning(b"mk".as_slice()), None);
+    let mut table = FunctionTable::new(alloc);
+    table.add(alloc, b"mk".as_slice(), Meaning::Make(2, 1))?;
+    if !table.has(b"get".as_slice()) {
+        table.add(alloc, b"get".as_slice(), Meaning::Get(2, 1, 0))?;
+    }
+    let copy = table.copy()?;
+    table.truncate(1);
+    assert_eq!(rt; (table.len(), copy.len()), (1, 2));
+    assert_eq!(rt; table.get(b"mk".as_slice()), Some(Meaning::Make(2, 1)));
+    assert_eq!(rt; table.get(b"get".as_slice()), None);
+    assert_eq!(rt; copy.get(b"get".as_slice()), Some(Meaning::Get(2, 1, 0)));
+    assert_eq!(rt; copy.get(b"ge".as_slice()), None);
     Ok(())
 }

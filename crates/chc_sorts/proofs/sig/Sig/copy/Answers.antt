@@ -1,10 +1,22 @@
-use Rattle.std.proofs.Common.{◌≡◌, List, subst, sym}
-use Rattle.chc_sorts.specs.declared.sig.Data.{Data}
+use Rattle.std.proofs.Common.{◌≡◌, ◌≤◌, ℕ, List, length, map, ap, subst, sym, ◌∙◌}
+use Rattle.std.specs.List.{list_all}
+use Rattle.chc_sorts.specs.Listing.{is_narrow}
+use Rattle.chc_sorts.specs.declared.data.Data.{Data}
+use Rattle.chc_sorts.specs.declared.meaning.Meaning.{Meaning}
 use Rattle.chc_sorts.specs.Signature.{AllInhabited}
+use Rattle.chc_sorts.specs.Functions.{functions}
+use Rattle.chc_sorts.specs.Kept.{IsKept, most_datatypes}
 use Rattle.chc_sorts.proofs.sig.Sig.copy.Goals as goal
 
-inhabited_along : (copies datatypes : List Data) → copies ≡ datatypes → AllInhabited datatypes → AllInhabited copies
-inhabited_along copies datatypes e h = subst AllInhabited (sym e) h
+kept_along : (datatypes copies : List Data) (groups sizes : List ℕ) (names more : List (List ℕ)) (rows others : List (List ℕ × Meaning)) → copies ≡ datatypes → more ≡ names → others ≡ rows
+    → IsKept (record { datatypes = datatypes; groups = groups }) names rows → IsKept (record { datatypes = copies; groups = sizes }) more others
+kept_along datatypes copies groups sizes names more rows others same named tabled k = record {
+  inhabited = subst AllInhabited (sym same) k.inhabited;
+  few = subst (λ (l : List Data). length l ≤ most_datatypes) (sym same) k.few;
+  narrow = ap (list_all is_narrow) same ∙ k.narrow;
+  named = named ∙ k.named ∙ ap (λ (l : List Data). map (λ (t : Data). t.name) l) (sym same);
+  tabled = tabled ∙ k.tabled ∙ ap (λ (l : List Data). functions (record { datatypes = l; groups = sizes })) (sym same);
+}
 
 pub invariant_of-result : goal.invariant_of-result
-invariant_of-result c = inhabited_along _ _ c.in_ok-datatypes.ensures c.self.invariant
+invariant_of-result c = kept_along _ _ _ _ _ _ _ _ c.in_ok-datatypes.ensures c.in_ok-names.ensures c.in_ok-functions.ensures c.self.invariant

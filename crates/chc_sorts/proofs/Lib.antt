@@ -1,0 +1,13 @@
+mod Tables
+pub mod SameSort
+pub mod Apart
+mod MarkLaws
+mod Rows
+mod Unknown
+mod PassLaws
+mod Knowing
+mod TakenLaws
+mod FieldLaws
+mod ListingLaws
+mod GroupLaws
+mod AddLaws

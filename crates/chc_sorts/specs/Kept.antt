@@ -1,0 +1,21 @@
+-- What a signature keeps beside its datatypes.
+use Rattle.std.specs.Prelude.{◌≡◌, ◌≤◌, ℕ, true, List, length}
+use Rattle.std.specs.List.{list_all}
+use Rattle.chc_sorts.specs.declared.meaning.Meaning.{Meaning}
+use Rattle.chc_sorts.specs.Signature.{Signature, AllInhabited}
+use Rattle.chc_sorts.specs.Functions.{functions}
+use Rattle.chc_sorts.specs.Listing.{is_narrow}
+use Rattle.chc_sorts.specs.Named.{datatype_names}
+
+-- the greatest number of datatypes
+abbrev pub most_datatypes : ℕ
+most_datatypes = 1024
+
+-- every datatype has a value, there are not too many, none has too many constructors or fields, and the two tables hold
+-- their names, and their constructors and selectors
+pub record IsKept (sig : Signature) (names : List (List ℕ)) (rows : List (List ℕ × Meaning)) : Type 0 where
+  pub inhabited : AllInhabited sig.datatypes
+  pub few : length sig.datatypes ≤ most_datatypes
+  pub narrow : list_all is_narrow sig.datatypes ≡ true
+  pub named : names ≡ datatype_names sig
+  pub tabled : rows ≡ functions sig

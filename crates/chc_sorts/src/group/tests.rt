@@ -1,0 +1,134 @@
+//! Groups that come into a signature, and groups that are refused.
+
+use crate::{Boxed, CtorSpec, DataSpec, FieldSpec, List, Name, NoMemory, Sig, SigErr, SortSpec};
+use std::alloc::Global;
+use std::mem;
+use std::test::Fail;
+
+/// The name of one letter.
+fn letter(alloc: Global, letter: u8) -> Result<Name, NoMemory> {
+    let mut name = List::new(alloc);
+    name.push(letter)?;
+    Ok(name)
+}
+
+/// The sort of a letter: `i` for Int, `b` for Bool, any other letter for a name.
+fn named(alloc: Global, sort: u8) -> Result<SortSpec, NoMemory> {
+    let bytes = match sort {
+        b'i' => b"Int".as_slice(),
+        b'b' => b"Bool".as_slice(),
+        _ => return Ok(SortSpec::Named(letter(alloc, sort)?)),
+    };
+    let mut name = List::new(alloc);
+    for byte in bytes {
+        name.push(*byte)?;
+    }
+    Ok(SortSpec::Named(name))
+}
+
+/// The sort of a letter (`f`), an array of it over Int (`a`) or over Bool (`x`), or sixteen such arrays over Int (`p`).
+fn field_sort(alloc: Global, kind: u8, sort: u8) -> Result<SortSpec, NoMemory> {
+    let (index, count) = match kind {
+        b'a' => (b'i', 1),
+        b'x' => (b'b', 1),
+        b'p' => (b'i', 16),
+        _ => (b'i', 0),
+    };
+    let mut made = named(alloc, sort)?;
+    for _ in 0..count {
+        let index = Boxed::new(alloc, named(alloc, index)?)?;
+        made = SortSpec::Array(index, Boxed::new(alloc, made)?);
+    }
+    Ok(made)
+}
+
+/// The group of a text in parts of three letters: a field's kind, name and sort, before its constructor `cK.`, which
+/// stands before its datatype `dT.`.
+fn group_of(alloc: Global, text: &[u8]) -> Result<List<DataSpec>, NoMemory> {
+    let mut fields = List::new(alloc);
+    let mut ctors = List::new(alloc);
+    let mut group = List::new(alloc);
+    for part in text.chunks(3) {
+        match part {
+            [b'c', name, _] => {
+                let fields = mem::replace(&mut fields, List::new(alloc));
+                let name = letter(alloc, *name)?;
+                ctors.push(CtorSpec { name, fields })?;
+            }
+            [b'd', name, _] => {
+                let ctors = mem::replace(&mut ctors, List::new(alloc));
+                let name = letter(alloc, *name)?;
+                group.push(DataSpec { name, ctors })?;
+            }
+            [kind, name, sort] => {
+                let sort = field_sort(alloc, *kind, *sort)?;
+                let name = letter(alloc, *name)?;
+                fields.push(FieldSpec { name, sort })?;
+            }
+            _ => {}
+        }
+    }
+    Ok(group)
+}
+
+/// A letter for each answer, and the first letter of the name that it holds.
+fn told(answer: Result<(), SigErr>) -> (u8, u8) {
+    match answer {
+        Ok(()) => (b'o', b'.'),
+        Err(SigErr::NameTaken(name)) => (b't', first(&name)),
+        Err(SigErr::UnknownSort(name)) => (b'u', first(&name)),
+        Err(SigErr::ArrayIndex) => (b'x', b'.'),
+        Err(SigErr::SortTooDeep) => (b'p', b'.'),
+        Err(SigErr::TooMany(_)) => (b'm', b'.'),
+        Err(SigErr::NotWellFounded(name)) => (b'w', first(&name)),
+        Err(SigErr::NoMemory) => (b'n', b'.'),
+    }
+}
+
+fn first(name: &Name) -> u8 {
+    match name.get(0) {
+        Some(byte) => *byte,
+        None => b'?',
+    }
+}
+
+/// What the signature answers a group, which is the row but for its last two letters; those are what it has to answer.
+fn is_told(alloc: Global, sig: &mut Sig, preds: &List<Name>, row: &[u8]) -> Result<bool, NoMemory> {
+    match row {
+        [text @ .., kind, name] => {
+            let group = group_of(alloc, text)?;
+            let answer = told(sig.add_group(alloc, group.as_slice(), preds));
+            Ok(answer == (*kind, *name))
+        }
+        [] | [_] => Ok(false),
+    }
+}
+
+#[test]
+fn groups_are_told_apart(rt: HostRuntime) -> Result<(), Fail> {
+    let alloc = rt.alloc();
+    let mut preds = List::new(alloc);
+    preds.push(letter(alloc, b'q')?)?;
+    let mut sig = Sig::new(alloc);
+    let rows = [
+        b"cr.cg.cb.dC.o.".as_slice(),
+        b"fxCfyicm.dP.o.",
+        b"cn.fhiftLco.dL.o.",
+        b"fuVck.dU.cv.fwUcz.dV.o.",
+        b"fsTcj.dT.wT",
+        b"asTcj.dT.wT",
+        b"asCcj.dT.o.",
+        b"fxTcl.dA.tx",
+        b"f1Zc1.dA.t1",
+        b"f1Zcq.dA.tq",
+        b"x1if2Zc3.dA.uZ",
+        b"p1ix2ic3.dA.x.",
+        b"p1Ac3.dA.p.",
+    ];
+    for row in rows {
+        assert!(rt; is_told(alloc, &mut sig, &preds, row)?);
+    }
+    assert_eq!(rt; sig.datatypes().len(), 6);
+    assert_eq!(rt; sig.groups().as_slice(), [1, 1, 1, 2, 1].as_slice());
+    Ok(())
+}
