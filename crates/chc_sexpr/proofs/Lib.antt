@@ -1,7 +1,9 @@
+pub mod Again
 pub mod Blanks
 pub mod Decimals
 pub mod Depths
 pub mod Folds
+pub mod Fronts
 pub mod Heads
 pub mod Moves
 pub mod OneFault

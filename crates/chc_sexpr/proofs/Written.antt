@@ -1,17 +1,18 @@
 -- Texts that are written as trees: for each form, the tree that it is at its place, and how texts side by side are trees side by side.
-use Rattle.std.proofs.Common.{◌≡◌, inl, inr, ℕ, ◌+◌, ◌≤◌, ◌<◌, ◌^◌, pos, Bool, true, false, not, ◌||◌, ◌==◌, List, [], ◌∷◌, ◌++◌, length, sym, refl, subst, arith}
+use Rattle.std.proofs.Common.{◌≡◌, ◌⊎◌, inl, inr, ℕ, ◌+◌, ◌≤◌, ◌<◌, ◌^◌, pos, Bool, true, false, not, ◌&&◌, ◌||◌, ◌==◌, cond, List, [], ◌∷◌, ◌++◌, length, codes, sym, refl, subst, arith}
 use Rattle.std.specs.Prelude.{IsTrue, decimal}
 use Rattle.std.specs.List.{list_all}
-use Rattle.std.proofs.lemmas.Bool.{or_cases, eqb-true}
+use Rattle.std.proofs.lemmas.Bool.{and_parts, or_cases, eqb-true}
 use Rattle.std.proofs.Math.Nat.{max-le}
 use Rattle.chc_sexpr.specs.Tokens.{is_white, is_symbol_byte, is_simple_symbol, is_reserved}
 use Rattle.chc_sexpr.specs.Trees.{depth, depth_step, depth_all}
-use Rattle.chc_sexpr.specs.Spelling.{is_gap, is_blank_in, is_quotable, stops, string_of, EachSpelled, LevelSpelled, TreeSpelled, Spells}
+use Rattle.chc_sexpr.specs.Spelling.{is_gap, is_blank_in, is_quotable, is_keyword, stops, continues_binary, string_of, IsDecimal, IsHexadecimal, IsBinary, EachSpelled, LevelSpelled, TreeSpelled, Spells}
+use Rattle.chc_sexpr.specs.Symbols.{is_bare, is_command_name, symbol_text}
 use Rattle.chc_sexpr.specs.declared.tree.Tree.{Tree}
 use Rattle.chc_sexpr.specs.declared.tree.Tree.TheOpen.{Tree-F}
-use Rattle.chc_sexpr.specs.declared.tree.Tree.TheVariants.{Symbol, Word, Numeral, Text, Group}
-use Rattle.chc_sexpr.proofs.Folds.{fold-Symbol, fold-Word, fold-Numeral, fold-Text, fold-Group}
-use Rattle.chc_sexpr.proofs.Spelled.{shut, spelled-Symbol, spelled-Word, spelled-Numeral, spelled-Text, spelled-Group}
+use Rattle.chc_sexpr.specs.declared.tree.Tree.TheVariants.{Symbol, Word, Keyword, Numeral, Text, Other, Group}
+use Rattle.chc_sexpr.proofs.Folds.{fold-Symbol, fold-Word, fold-Keyword, fold-Numeral, fold-Text, fold-Other, fold-Group}
+use Rattle.chc_sexpr.proofs.Spelled.{shut, spelled-Symbol, spelled-Word, spelled-Keyword, spelled-Numeral, spelled-Text, spelled-Other, spelled-Group}
 
 -- ---- what stands behind a tree
 
@@ -65,6 +66,9 @@ stops_symbol = stops_parted is_symbol_byte (record { space = refl; feed = refl; 
 pub stops_string : (after : List ℕ) → IsTrue (is_parted after) → IsTrue (stops (λ b. b == 34) after)
 stops_string = stops_parted (λ b. b == 34) (record { space = refl; feed = refl; carriage = refl; tab = refl; opening = refl; closing = refl })
 
+stops_binary : (after : List ℕ) → IsTrue (is_parted after) → IsTrue (stops continues_binary after)
+stops_binary = stops_parted continues_binary (record { space = refl; feed = refl; carriage = refl; tab = refl; opening = refl; closing = refl })
+
 -- ---- one tree
 
 -- a tree of the kind that the text is at the place, in front of what is after it, and that is no deeper than so
@@ -83,6 +87,15 @@ pub tree_of_kind : (kind wider : Tree → Type 0) (deep deeper : ℕ) → deep �
     → (place : ℕ) (text after : List ℕ) → TreeAt kind deep place text after → TreeAt wider deeper place text after
 tree_of_kind kind wider deep deeper le widens place text after t =
     record { tree = t.tree; is = widens t.tree t.is; shallow = (let h = t.shallow in omega arith); spelled = t.spelled }
+
+-- a decimal, hexadecimal or binary token
+abbrev pub IsOtherToken : List ℕ → Type 0
+IsOtherToken token = (IsDecimal token ⊎ IsHexadecimal token) ⊎ IsBinary token
+
+other_stops : (token after : List ℕ) → IsTrue (is_parted after) → IsOtherToken token
+    → ((IsDecimal token ⊎ IsHexadecimal token) × IsTrue (stops is_symbol_byte after)) ⊎ (IsBinary token × IsTrue (stops continues_binary after))
+other_stops token after parted (inl form) = inl (form, stops_symbol after parted)
+other_stops token after parted (inr form) = inr (form, stops_binary after parted)
 
 module _ (kind : Tree → Type 0) (deep place : ℕ) where
   at_tree : (t : Tree) (level : Tree-F Tree) (text after : List ℕ) → TreeSpelled t ≡ LevelSpelled TreeSpelled level → kind t → depth t ≤ deep
@@ -113,6 +126,12 @@ module _ (kind : Tree → Type 0) (deep place : ℕ) where
       at_leaf (Word place word) (Tree-F.Word place word) word after (spelled-Word place word) is (fold-Word ℕ depth_step place word)
       (refl, refl, reserved, stops_symbol after parted)
 
+  -- a keyword
+  pub keyword_at : (word after : List ℕ) → IsTrue (is_parted after) → IsTrue (is_keyword word) → kind (Keyword place word) → TreeAt kind deep place word after
+  keyword_at word after parted keyword is =
+      at_leaf (Keyword place word) (Tree-F.Keyword place word) word after (spelled-Keyword place word) is (fold-Keyword ℕ depth_step place word)
+      (refl, refl, keyword, stops_symbol after parted)
+
   -- a number in decimal
   pub numeral_at : (n : ℕ) (after : List ℕ) → IsTrue (is_parted after) → n < 2 ^ 127 → kind (Numeral place (pos n)) → TreeAt kind deep place (decimal n) after
   numeral_at n after parted small is =
@@ -124,6 +143,25 @@ module _ (kind : Tree → Type 0) (deep place : ℕ) where
   string_at bytes after parted is =
       at_leaf (Text place bytes) (Tree-F.Text place bytes) (string_of bytes) after (spelled-Text place bytes) is (fold-Text ℕ depth_step place bytes)
       (refl, refl, stops_string after parted)
+
+  -- a token of another form
+  pub other_at : (token after : List ℕ) → IsTrue (is_parted after) → IsOtherToken token → kind (Other place token) → TreeAt kind deep place token after
+  other_at token after parted form is =
+      at_leaf (Other place token) (Tree-F.Other place token) token after (spelled-Other place token) is (fold-Other ℕ depth_step place token)
+      (refl, refl, other_stops token after parted form)
+
+-- a name is written as its symbol
+name_by : (kind : Tree → Type 0) (deep : ℕ) (name : List ℕ) (bare : Bool) → is_bare name ≡ bare → IsTrue (list_all is_quotable name) → ((place : ℕ) → kind (Symbol place name))
+    → Writes kind deep (cond bare name (codes "|" ++ name ++ codes "|"))
+name_by kind deep name true e quotable is place after parted =
+    let symbol = and_parts (is_simple_symbol name && not (is_reserved name)) (not (is_command_name name)) e in
+    let parts = and_parts (is_simple_symbol name) (not (is_reserved name)) symbol.0 in
+    symbol_at kind deep place name after parted parts.0 parts.1 (is place)
+name_by kind deep name false e quotable is place after parted = quoted_at kind deep place name after quotable (is place)
+
+pub name_writes : (kind : Tree → Type 0) (deep : ℕ) (name : List ℕ) → IsTrue (list_all is_quotable name) → ((place : ℕ) → kind (Symbol place name)) → Writes kind deep (symbol_text name)
+unfolding symbol_text
+name_writes kind deep name quotable is = name_by kind deep name (is_bare name) refl quotable is
 
 -- ---- trees side by side
 

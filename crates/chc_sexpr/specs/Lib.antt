@@ -3,7 +3,10 @@ pub mod Faults
 pub mod Names
 pub mod Scanning
 pub mod Spelling
+pub mod Symbols
 pub mod Tokens
 pub mod Trees
 pub mod Readings
 pub mod Shapes
+pub mod Counts
+pub mod Writing

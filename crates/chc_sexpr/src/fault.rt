@@ -174,3 +174,14 @@ impl From<NoMemory> for TextErr {
         TextErr::NoMemory
     }
 }
+
+impl<T: Drop> From<(T, NoMemory)> for TextErr {
+    ghost use Rattle.std.specs.Prelude.{◌≡◌};
+    ghost use Rattle.chc_sexpr.specs.declared.fault.TextErr.TheVariants.{NoMemory as refused};
+
+    ghost from_gives = { λ _ made. made ≡ refused };
+
+    fn from(_refused: (T, NoMemory)) -> TextErr {
+        TextErr::NoMemory
+    }
+}

@@ -1,8 +1,10 @@
-//! Trees of small texts, and the faults of texts that spell none.
+//! Trees of small texts, the faults of texts that spell none, and the texts of trees.
 
 use crate::fault::{Fault, TextErr};
+use crate::symbol::write_symbol;
 use crate::text::read_trees;
 use crate::tree::{Tree, Trees};
+use crate::write::write_tree;
 use chc_sorts::NoMemory;
 use chc_source::ByteText;
 use std::alloc::Global;
@@ -225,4 +227,74 @@ fn a_thousand_groups_may_stand_within_one_another(rt: HostRuntime) {
 fn faults_have_the_names_of_their_variants(rt: HostRuntime) {
     assert!(rt; Fault::BadByte.name() == b"BadByte".as_slice());
     assert!(rt; Fault::NotYet.name() == b"NotYet".as_slice());
+}
+
+/// The name as a symbol.
+fn symbol(alloc: Global, name: &[u8]) -> Result<ByteText, NoMemory> {
+    let mut out = ByteText::new(alloc);
+    write_symbol(&mut out, name)?;
+    Ok(out)
+}
+
+#[test]
+fn names_between_bars_and_bare(rt: HostRuntime) {
+    let names = [
+        (b"inv".as_slice(), b"inv".as_slice()),
+        (b"x!0", b"x!0"),
+        (b"", b"||"),
+        (b"0a", b"|0a|"),
+        (b"a b", b"|a b|"),
+        (b"forall", b"|forall|"),
+        (b"exit", b"|exit|"),
+        (b"get-unsat-core", b"|get-unsat-core|"),
+    ];
+    for (name, wanted) in names {
+        match symbol(rt.alloc(), name) {
+            Ok(text) => assert!(rt; text.bytes() == wanted, "at {}", name.len()),
+            Err(_) => assert!(rt; false, "at {}", name.len()),
+        }
+    }
+}
+
+/// The trees of a short text, written one behind the other.
+fn written(alloc: Global, text: &[u8]) -> Result<ByteText, TextErr> {
+    let mut out = ByteText::new(alloc);
+    if text.len() < 1000000 {
+        let trees = read_trees(alloc, text)?;
+        for tree in trees.as_slice() {
+            write_tree(tree, &mut out)?;
+        }
+    }
+    Ok(out)
+}
+
+#[test]
+fn trees_are_written_in_one_way(rt: HostRuntime) {
+    let texts = [
+        (b" |abc| ".as_slice(), b"abc".as_slice()),
+        (b"let", b"let"),
+        (b"|let|", b"|let|"),
+        (b"assert", b"|assert|"),
+        (b"||", b"||"),
+        (b"\t:key", b":key"),
+        (b"0 ;", b"0"),
+        (
+            b"170141183460469231731687303715884105727",
+            b"170141183460469231731687303715884105727",
+        ),
+        (b"\"a\"\"b\"", b"\"a\"\"b\""),
+        (b"0.50", b"0.50"),
+        (b"#xaF0", b"#xaF0"),
+        (b"( )", b"()"),
+        (
+            b"(;\n|a| ( )\n(\"b\"(12)#b01)|c d| )",
+            b"(a () (\"b\" (12) #b01) |c d|)",
+        ),
+    ];
+    for (text, wanted) in texts {
+        match written(rt.alloc(), text) {
+            Ok(out) => assert!(rt; out.bytes() == wanted, "at {}", text.len()),
+            Err(_) => assert!(rt; false, "at {}", text.len()),
+        }
+    }
 }
