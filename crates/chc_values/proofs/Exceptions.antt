@@ -85,7 +85,7 @@ value_at-absent default (e ∷ es) i h =
     pick-no (ℤ_discrete e.0 i) e.1 (value_at default es i) (λ p. h e.1 (inl (λ j. (p j, e.1)))) ∙ value_at-absent default es i (λ u m. h u (inr m))
 
 -- an exception stands at its index
-In-above : (i : ℤ) (es : Exceptions) (e : ℤ × Value) → AreAbove i es → In es e → i <ℤ e.0
+pub In-above : (i : ℤ) (es : Exceptions) (e : ℤ × Value) → AreAbove i es → In es e → i <ℤ e.0
 In-above i [] e a m = absurd m
 In-above i (x ∷ es) e a (inl p) = subst (λ (y : ℤ × Value). i <ℤ y.0) p a.0
 In-above i (x ∷ es) e a (inr m) = In-above i es e a.1 m

@@ -5,3 +5,12 @@ pub mod Exceptions
 pub mod Storing
 pub mod Lookups
 pub mod Datatypes
+mod RangeLaws
+pub mod ArrayLaws
+mod Places
+mod Edits
+mod SortTests
+mod Keys
+pub mod Choosing
+pub mod Building
+mod Narrow

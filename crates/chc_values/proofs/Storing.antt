@@ -1,6 +1,7 @@
 -- The exceptions after a store: they are there, and stand canonically.
-use Rattle.std.proofs.Common.{◌≡◌, ◌≢◌, ℤ, ◌<ℤ◌, [], ◌∷◌, refl, sym, ◌∙◌, subst}
+use Rattle.std.proofs.Common.{◌≡◌, ◌≢◌, ℤ, ◌<ℤ◌, [], ◌∷◌, arith, refl, sym, ◌∙◌, subst}
 use Rattle.std.proofs.Math.IntN.{ℤ_discrete}
+use Rattle.std.proofs.lemmas.Int.{ints}
 use Rattle.chc_values.specs.declared.value.Value.{Value}
 use Rattle.chc_values.proofs.Equality.{value_decided}
 use Rattle.chc_values.proofs.Exceptions.{Exceptions, pick, pick-yes, value_at, value_at-below, AreAbove, Ascends, NoDefaults, Canonical, Order, less, same, more, ordered, below_all, not_below_itself, here, elsewhere}
@@ -11,13 +12,46 @@ put_by (same h) i v e es rest = (i, v) ∷ es
 put_by (more h) i v e es rest = e ∷ rest
 
 -- the exceptions with v at the index i
-abbrev put : ℤ → Value → Exceptions → Exceptions
-unfolding put_by
+pub put : ℤ → Value → Exceptions → Exceptions
 put i v [] = (i, v) ∷ []
 put i v (e ∷ es) = put_by (ordered i e.0) i v e es (put i v es)
 
+put_by-less : {i j : ℤ} (o : Order i j) (v : Value) (e : ℤ × Value) (es rest : Exceptions) → i <ℤ j → put_by o i v e es rest ≡ (i, v) ∷ e ∷ es
+unfolding put_by
+put_by-less (less h) v e es rest l = refl
+put_by-less {i} {j} (same h) v e es rest l = absurd (not_below_itself i j l h)
+put_by-less (more h) v e es rest l = absurd (omega (arith, ints))
+
+put_by-same : {i j : ℤ} (o : Order i j) (v : Value) (e : ℤ × Value) (es rest : Exceptions) → i ≡ j → put_by o i v e es rest ≡ (i, v) ∷ es
+unfolding put_by
+put_by-same {i} {j} (less h) v e es rest p = absurd (not_below_itself i j h p)
+put_by-same (same h) v e es rest p = refl
+put_by-same {i} {j} (more h) v e es rest p = absurd (not_below_itself j i h (sym p))
+
+put_by-more : {i j : ℤ} (o : Order i j) (v : Value) (e : ℤ × Value) (es rest : Exceptions) → j <ℤ i → put_by o i v e es rest ≡ e ∷ rest
+unfolding put_by
+put_by-more (less h) v e es rest l = absurd (omega (arith, ints))
+put_by-more {i} {j} (same h) v e es rest l = absurd (not_below_itself j i l (sym h))
+put_by-more (more h) v e es rest l = refl
+
+pub put-none : (i : ℤ) (v : Value) → put i v [] ≡ (i, v) ∷ []
+unfolding put
+put-none i v = refl
+
+pub put-less : (i : ℤ) (v : Value) (e : ℤ × Value) (es : Exceptions) → i <ℤ e.0 → put i v (e ∷ es) ≡ (i, v) ∷ e ∷ es
+unfolding put put_by
+put-less i v e es l = put_by-less (ordered i e.0) v e es (put i v es) l
+
+pub put-same : (i : ℤ) (v : Value) (e : ℤ × Value) (es : Exceptions) → i ≡ e.0 → put i v (e ∷ es) ≡ (i, v) ∷ es
+unfolding put put_by
+put-same i v e es p = put_by-same (ordered i e.0) v e es (put i v es) p
+
+pub put-more : (i : ℤ) (v : Value) (e : ℤ × Value) (es : Exceptions) → e.0 <ℤ i → put i v (e ∷ es) ≡ e ∷ put i v es
+unfolding put put_by
+put-more i v e es l = put_by-more (ordered i e.0) v e es (put i v es) l
+
 -- the exceptions without the index i
-abbrev without : ℤ → Exceptions → Exceptions
+abbrev pub without : ℤ → Exceptions → Exceptions
 without i [] = []
 without i (e ∷ es) = pick (ℤ_discrete e.0 i) es (e ∷ without i es)
 
@@ -62,7 +96,7 @@ put_changes_by default i v e es rest (more h) n a d c = record {
     at_others j m = by j m (ℤ_discrete e.0 j)
 
 put_changes : (default : Value) (i : ℤ) (v : Value) (es : Exceptions) → v ≢ default → Ascends es → NoDefaults default es → Changes default i v es (put i v es)
-unfolding put_by
+unfolding put put_by
 put_changes default i v [] n a d = record {
   at_index = here default (i, v) [];
   at_others = λ j m. elsewhere default (i, v) [] j m;
@@ -115,14 +149,17 @@ pub record Stored (default : Value) (old : Exceptions) (i : ℤ) (v : Value) (ne
 stored_from : (default : Value) (old : Exceptions) (i : ℤ) (v : Value) (new : Exceptions) → Changes default i v old new → Stored default old i v new
 stored_from default old i v new c = record { canonical = record { ascends = c.ascends; no_defaults = c.no_defaults }; at_index = c.at_index; at_others = c.at_others }
 
+-- `put` stores a value that isn't the default, and `without` the default
+pub put_stored : (default : Value) (es : Exceptions) (i : ℤ) (v : Value) → Canonical default es → v ≢ default → Stored default es i v (put i v es)
+put_stored default es i v h n = stored_from default es i v (put i v es) (put_changes default i v es n h.ascends h.no_defaults)
+
+pub without_stored : (default : Value) (es : Exceptions) (i : ℤ) → Canonical default es → Stored default es i default (without i es)
+without_stored default es i h = stored_from default es i default (without i es) (without_changes default i es h.ascends h.no_defaults)
+
 -- a store can be made
 pub stored : (default : Value) (old : Exceptions) (i : ℤ) (v : Value) → Canonical default old → (new : Exceptions) × Stored default old i v new
 stored default old i v h = at (value_decided v default)
   where
     at : Dec (v ≡ default) → (new : Exceptions) × Stored default old i v new
-    at (yes p) = (
-      without i old,
-      stored_from default old i v (without i old)
-          (subst (λ u. Changes default i u old (without i old)) (sym p) (without_changes default i old h.ascends h.no_defaults)),
-    )
-    at (no n) = (put i v old, stored_from default old i v (put i v old) (put_changes default i v old n h.ascends h.no_defaults))
+    at (yes p) = (without i old, subst (λ u. Stored default old i u (without i old)) (sym p) (without_stored default old i h))
+    at (no n) = (put i v old, put_stored default old i v h n)

@@ -3,9 +3,9 @@ use Rattle.std.specs.Prelude.{◌≡◌, ◌≢◌, ℕ, ℤ, ◌<ℤ◌, List, 
 use Rattle.std.specs.List.{AllByRecursion}
 use Rattle.chc_sorts.specs.declared.sort.Sort.{Sort}
 use Rattle.chc_sorts.specs.declared.sort.Sort.TheVariants as sort
-use Rattle.chc_sorts.specs.declared.sig.Data.{Data}
-use Rattle.chc_sorts.specs.declared.sig.Ctor.{Ctor}
-use Rattle.chc_sorts.specs.declared.sig.Field.{Field}
+use Rattle.chc_sorts.specs.declared.data.Data.{Data}
+use Rattle.chc_sorts.specs.declared.data.Ctor.{Ctor}
+use Rattle.chc_sorts.specs.declared.data.Field.{Field}
 use Rattle.chc_sorts.specs.Signature.{Signature}
 use Rattle.chc_values.specs.declared.value.Value.{Value, Value-F, rec-Value}
 

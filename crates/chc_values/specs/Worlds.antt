@@ -1,5 +1,5 @@
 -- Worlds: finite tables of what the standard leaves open.
-use Rattle.std.specs.Prelude.{◌≡◌, ◌≢◌, ◌⊎◌, ℕ, ℤ, pos, List, [], ◌∷◌, Some, Contains, All, slice_get}
+use Rattle.std.specs.Prelude.{◌≡◌, ◌≢◌, ◌⊎◌, ℕ, ℤ, pos, List, [], ◌∷◌, ◌++◌, Some, Result, Ok, Err, ⊤, Contains, All, slice_get}
 use Rattle.chc_sorts.specs.declared.sort.Sort.{Sort}
 use Rattle.chc_sorts.specs.declared.sort.Sort.TheVariants as sort
 use Rattle.chc_sorts.specs.Signature.{Signature}
@@ -7,6 +7,8 @@ use Rattle.chc_values.specs.declared.value.Value.{Value}
 use Rattle.chc_values.specs.declared.value.Value.TheVariants as value
 use Rattle.chc_values.specs.declared.world.WorldEntry.{WorldEntry}
 use Rattle.chc_values.specs.declared.world.WorldEntry.TheVariants as entry
+use Rattle.chc_values.specs.declared.world.WorldErr.{WorldErr}
+use Rattle.chc_values.specs.declared.world.WorldErr.TheVariants as refusal
 use Rattle.chc_values.specs.Values.{HasFields, IsOf}
 use Rattle.chc_values.specs.Defaults.{IsDefault}
 
@@ -50,3 +52,19 @@ EntryFits sig (entry.Mod0 m r) = Unit {0}
 -- the table is a world of the signature
 abbrev pub IsWorld : Signature → List WorldEntry → Type 0
 IsWorld sig w = KeysOnce w × All (EntryFits sig) w
+
+-- field i of constructor c of the datatype d is declared, and of the sort s
+abbrev pub IsFieldSort : Signature → ℕ → ℕ → ℕ → Sort → Type 0
+IsFieldSort sig d c i s = (sorts : List Sort) × HasFields sig d c sorts × (slice_get sorts i ≡ Some s)
+
+-- some entry of the table speaks of e's key
+abbrev pub HasKey : List WorldEntry → WorldEntry → Type 0
+HasKey w e = (other : WorldEntry) × Contains w other × SameKey e other
+
+-- what adding e to the table answers, and the table after it, which is the old one after a refusal:
+-- `WrongSort` where e doesn't fit, otherwise `Twice` where its key is there, otherwise it stands at the end or memory was refused
+abbrev pub Adds : Type 0 → List WorldEntry → WorldEntry → Result ⊤ WorldErr → List WorldEntry → Type 0
+Adds fits old e (Ok done) new = fits × (HasKey old e → ⊥) × (new ≡ old ++ e ∷ [])
+Adds fits old e (Err refusal.WrongSort) new = (fits → ⊥) × (new ≡ old)
+Adds fits old e (Err refusal.Twice) new = fits × HasKey old e × (new ≡ old)
+Adds fits old e (Err refusal.NoMemory) new = fits × (HasKey old e → ⊥) × (new ≡ old)
