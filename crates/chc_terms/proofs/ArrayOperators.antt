@@ -11,10 +11,12 @@ use Rattle.chc_values.specs.declared.world.WorldEntry.{WorldEntry}
 use Rattle.chc_values.specs.Values.{IsOf, AreOf}
 use Rattle.chc_values.proofs.ValueSorts.{HoldsOf, held_by_array, array_of, array_value, integer_value}
 use Rattle.chc_values.proofs.Exceptions.{Canonical-from, IsCanonical-from, value_at}
-use Rattle.chc_terms.specs.Has.{Applies, HasAt, Stores}
-use Rattle.chc_terms.specs.Sorted.{same_sort, same_sorts, read_sort, write_sort, element_of, when}
+use Rattle.chc_values.specs.Arrays.{HasAt, Stores}
+use Rattle.chc_terms.specs.Has.{Applies}
+use Rattle.chc_sorts.specs.Sorts.{same_sort, same_sorts}
+use Rattle.chc_terms.specs.Sorted.{read_sort, write_sort, element_of, when, is_declared}
 use Rattle.chc_terms.proofs.SameSort.{same_from_test, same_sorts_from_test, both_true}
-use Rattle.chc_terms.proofs.Arrays.{HasAt-is, HasAt-found, one_at, one_store, some_store, stored_all, value_at-all}
+use Rattle.chc_values.proofs.ArrayLaws.{HasAt-is, HasAt-found, one_at, one_store, some_store, stored_all, value_at-all}
 use Rattle.chc_terms.proofs.OperatorShapes.{OperatorFits, OperatorAnswers, when_some, led_on, element_from, same_array, AreOf-one, AreOf-two, AreOf-three}
 
 -- what is read, and what is written, by the arguments' sorts
@@ -191,11 +193,18 @@ module _ (sig : Signature) where
     const_one : (element : Sort) (vs : List Value) (u v : Value) → Applies sig w (op.Const element) vs u → Applies sig w (op.Const element) vs v → u ≡ v
     const_one element vs u v x y = let e : x.0 ≡ y.0 = cc in x.2 ∙ ap (λ d. value.Array d []) e ∙ sym y.2
 
-    const_of : (element : Sort) (sorts : List Sort) (s : Sort) → when (same_sorts sorts (element ∷ [])) (sort.Array element) ≡ Some s → (vs : List Value) → AreOf sig vs sorts
+    -- the element sort of a constant array is that of its argument
+    const_sorts : (element : Sort) (sorts : List Sort) (s : Sort) → when (is_declared sig element && same_sorts sorts (element ∷ [])) (sort.Array element) ≡ Some s
+        → (sorts ≡ element ∷ []) × (sort.Array element ≡ s)
+    const_sorts element sorts s h =
+        let t = when_some (is_declared sig element && same_sorts sorts (element ∷ [])) (sort.Array element) s h in
+        (same_sorts_from_test sorts (element ∷ []) (both_true (is_declared sig element) (same_sorts sorts (element ∷ [])) t.0).1, t.1)
+
+    const_of : (element : Sort) (sorts : List Sort) (s : Sort) → when (is_declared sig element && same_sorts sorts (element ∷ [])) (sort.Array element) ≡ Some s → (vs : List Value) → AreOf sig vs sorts
         → (v : Value) → Applies sig w (op.Const element) vs v → IsOf sig v s
     const_of element sorts s h vs a v x =
-        let t = when_some (same_sorts sorts (element ∷ [])) (sort.Array element) s h in
-        let o = AreOf-one sig vs element (subst (AreOf sig vs) (same_sorts_from_test sorts (element ∷ []) t.0) a) in
+        let t = const_sorts element sorts s h in
+        let o = AreOf-one sig vs element (subst (AreOf sig vs) t.0 a) in
         let e : x.0 ≡ o.0 = cc in
         let q = array_of sig x.0 [] element (record {
           default_of = subst (λ u. IsOf sig u element) (sym e) o.2;
@@ -209,6 +218,6 @@ module _ (sig : Signature) where
 
     pub const_answers : (element : Sort) → OperatorAnswers sig w (op.Const element)
     const_answers element sorts s h vs a =
-        let t = when_some (same_sorts sorts (element ∷ [])) (sort.Array element) s h in
-        let o = AreOf-one sig vs element (subst (AreOf sig vs) (same_sorts_from_test sorts (element ∷ []) t.0) a) in
+        let t = const_sorts element sorts s h in
+        let o = AreOf-one sig vs element (subst (AreOf sig vs) t.0 a) in
         (value.Array o.0 [], (o.0, o.1, refl))

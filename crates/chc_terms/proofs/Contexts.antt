@@ -10,7 +10,7 @@ use Rattle.chc_terms.specs.declared.fun_sort.FunSort.{FunSort}
 use Rattle.chc_terms.specs.declared.term.Kind.{Kind}
 use Rattle.chc_terms.specs.declared.term.Term.{Term}
 use Rattle.chc_terms.specs.declared.term.Term.TheVariants.{App, Pred, Quant, Call}
-use Rattle.chc_terms.specs.Sorted.{Context, sort_of, sorts_of, op_sort, truth_at, result_at, quantifier_sort, when}
+use Rattle.chc_terms.specs.Sorted.{Context, sort_of, sorts_of, op_sort, truth_at, result_at, declared_quantifier_sort, when}
 use Rattle.chc_terms.proofs.Induction.{term_ind}
 use Rattle.chc_terms.proofs.SameSort.{same_sorts_itself}
 use Rattle.chc_terms.proofs.SortLaws.{sort_of-Var, sort_of-Num, sort_of-Lit, sort_of-App, sort_of-Pred, sort_of-Quant, sort_of-Call}
@@ -65,7 +65,8 @@ module _ (small large : Context) (more : Extends small large) where
   quant_kept : (k : Kind) (sorts : List Sort) (t : Term) → Kept t → Kept (Quant k sorts t)
   quant_kept k sorts t f vars s h =
       let g = quant_sorts small vars k sorts t s h in
-      sort_of-Quant large k sorts t vars ∙ ap (quantifier_sort sorts) (f (vars ++ sorts) sort.Bool g.0 ∙ sym g.0) ∙ sym (sort_of-Quant small k sorts t vars) ∙ h
+      sort_of-Quant large k sorts t vars ∙ ap (declared_quantifier_sort large.sig sorts) (f (vars ++ sorts) sort.Bool g.0 ∙ sym g.0)
+      ∙ ap (λ sig. declared_quantifier_sort sig sorts (sort_of small t (vars ++ sorts))) (sym more.same_sig) ∙ sym (sort_of-Quant small k sorts t vars) ∙ h
 
   pub sort_kept : (t : Term) (vars : List Sort) (s : Sort) → sort_of small t vars ≡ Some s → sort_of large t vars ≡ Some s
   sort_kept = term_ind Kept (record {

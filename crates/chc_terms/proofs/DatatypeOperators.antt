@@ -4,9 +4,9 @@ use Rattle.std.specs.Prelude.{nat_eq}
 use Rattle.std.proofs.lemmas.Option.{none-some, same_Some}
 use Rattle.chc_sorts.specs.declared.sort.Sort.{Sort}
 use Rattle.chc_sorts.specs.declared.sort.Sort.TheVariants as sort
-use Rattle.chc_sorts.specs.declared.sig.Data.{Data}
-use Rattle.chc_sorts.specs.declared.sig.Ctor.{Ctor}
-use Rattle.chc_sorts.specs.declared.sig.Field.{Field}
+use Rattle.chc_sorts.specs.declared.data.Data.{Data}
+use Rattle.chc_sorts.specs.declared.data.Ctor.{Ctor}
+use Rattle.chc_sorts.specs.declared.data.Field.{Field}
 use Rattle.chc_sorts.specs.declared.op.Op.TheVariants as op
 use Rattle.chc_sorts.specs.Signature.{Signature}
 use Rattle.chc_values.specs.declared.value.Value.{Value}
@@ -16,7 +16,8 @@ use Rattle.chc_values.specs.Values.{HasFields, IsOf, AreOf}
 use Rattle.chc_values.specs.Worlds.{IsWorld, KeysOnce, EntryFits, SelectsOpen}
 use Rattle.chc_values.proofs.Datatypes.{one_fields, same_data, fields_held, data_of, one_selected, selected_of}
 use Rattle.chc_terms.specs.Has.{Applies}
-use Rattle.chc_terms.specs.Sorted.{op_sort, fields_of, when, same_sorts}
+use Rattle.chc_sorts.specs.Sorts.{same_sorts}
+use Rattle.chc_terms.specs.Sorted.{op_sort, fields_of, when}
 use Rattle.chc_terms.proofs.SameSort.{same_sorts_from_test}
 use Rattle.chc_terms.proofs.OperatorLaws.{DatatypesFit}
 use Rattle.chc_terms.proofs.OperatorShapes.{OperatorFits, when_some, led_on, bool_of, AreOf-one}

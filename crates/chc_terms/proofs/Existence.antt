@@ -14,7 +14,8 @@ use Rattle.chc_values.specs.Values.{IsOf, AreOf}
 use Rattle.chc_values.proofs.ValueSorts.{truth_value}
 use Rattle.chc_terms.specs.declared.term.Term.{Term}
 use Rattle.chc_terms.specs.Has.{Meaning, Has, EachHas, AllHave, SomeHas, ChoiceHas, AppHas, Applies}
-use Rattle.chc_terms.specs.Sorted.{Context, sort_of, sorts_of, op_sort, are_truths, choice_sort, same_sort, is_unquantified}
+use Rattle.chc_sorts.specs.Sorts.{same_sort}
+use Rattle.chc_terms.specs.Sorted.{Context, sort_of, sorts_of, op_sort, are_truths, choice_sort, is_unquantified}
 use Rattle.chc_terms.specs.Laws.{Means, AreTotal, IsTotal}
 use Rattle.chc_terms.proofs.Induction.{TermCases, term_ind}
 use Rattle.chc_terms.proofs.HasLaws.{Has-Var, Has-Num, Has-Lit, Has-App, Has-Pred, Has-Call}

@@ -14,6 +14,7 @@ use Rattle.chc_values.proofs.ValueSorts as ValueSorts
 use Rattle.chc_terms.specs.declared.term.Term.{Term}
 use Rattle.chc_terms.specs.Has.{Meaning, Has, EachHas}
 use Rattle.chc_terms.specs.Sorted.{Context, sort_of, sorts_of, is_plain, is_unquantified}
+use Rattle.chc_terms.specs.ShiftLaws.{ShiftKeepsValues, ShiftKeepsSort, ShiftKeepsCounts}
 use Rattle.chc_terms.specs.Laws.{OneValue, OneValueUnderAny, SomeValue, SameMeaning, Means, AreTotal}
 use Rattle.chc_terms.proofs.Contexts.{alone, alone_extends, sort_kept, sorts_kept}
 use Rattle.chc_terms.proofs.SameSort.{both_true}
@@ -22,6 +23,7 @@ use Rattle.chc_terms.proofs.DatatypeOperators.{datatypes_fit}
 use Rattle.chc_terms.proofs.Uniqueness.{terms_single}
 use Rattle.chc_terms.proofs.Existence.{terms_have}
 use Rattle.chc_terms.proofs.TermLaws as TermLaws
+use Rattle.chc_terms.proofs.ShiftKeeps as ShiftKeeps
 
 -- the laws of one term
 pub one_value : OneValue
@@ -35,6 +37,16 @@ some_value = TermLaws.some_value
 
 pub same_meaning : SameMeaning
 same_meaning = TermLaws.same_meaning
+
+-- the laws of a term with room for other variables
+pub shift_keeps_values : ShiftKeepsValues
+shift_keeps_values = ShiftKeeps.shift_keeps_values
+
+pub shift_keeps_sort : ShiftKeepsSort
+shift_keeps_sort = ShiftKeeps.shift_keeps_sort
+
+pub shift_keeps_counts : ShiftKeepsCounts
+shift_keeps_counts = ShiftKeeps.shift_keeps_counts
 
 -- a value of Bool is a truth value
 pub truth_value : (sig : Signature) (v : Value) → IsOf sig v sort.Bool → (b : Bool) × (v ≡ value.Bool b)

@@ -5,7 +5,6 @@ pub mod SortLaws
 pub mod Meanings
 pub mod SameSort
 pub mod Division
-pub mod Arrays
 pub mod OperatorShapes
 pub mod PlainOperators
 pub mod ArrayOperators
@@ -18,3 +17,14 @@ pub mod Contexts
 pub mod ForOthers
 pub mod DatatypeOperators
 pub mod Variables
+pub mod OccurrenceLaws
+pub mod ValueTermLaws
+pub mod ShiftedLaws
+pub mod AlikeLaws
+pub mod Along
+pub mod Places
+pub mod ShiftKeeps
+pub mod SortTests
+pub mod JudgedLaws
+pub mod Judging
+pub mod JudgedExactly

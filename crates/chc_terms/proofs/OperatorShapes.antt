@@ -13,7 +13,8 @@ use Rattle.chc_values.specs.declared.world.WorldEntry.{WorldEntry}
 use Rattle.chc_values.specs.Values.{IsOf, AreOf}
 use Rattle.chc_values.proofs.ValueSorts.{IsOf-Bool, IsOf-Int, truth_value, integer_value}
 use Rattle.chc_terms.specs.Has.{Applies}
-use Rattle.chc_terms.specs.Sorted.{op_sort, when, same_sorts, element_of, element_at}
+use Rattle.chc_sorts.specs.Sorts.{same_sorts}
+use Rattle.chc_terms.specs.Sorted.{op_sort, when, element_of, element_at}
 use Rattle.chc_terms.proofs.SameSort.{same_sorts_from_test}
 
 -- the operator gives at most one value, and one of its sort

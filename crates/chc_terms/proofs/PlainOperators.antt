@@ -14,7 +14,8 @@ use Rattle.chc_values.specs.Worlds.{DividesByZero, LeavesByZero, KeysOnce}
 use Rattle.chc_values.proofs.Equality.{value_decided}
 use Rattle.chc_values.proofs.Lookups.{one_quotient_by_zero, some_quotient_by_zero, one_rest_by_zero, some_rest_by_zero}
 use Rattle.chc_terms.specs.Has.{Applies, Divides}
-use Rattle.chc_terms.specs.Sorted.{same_sorts, same_sort, equation_sort}
+use Rattle.chc_sorts.specs.Sorts.{same_sorts, same_sort}
+use Rattle.chc_terms.specs.Sorted.{equation_sort}
 use Rattle.chc_terms.proofs.Division.{one_division, some_division}
 use Rattle.chc_terms.proofs.OperatorShapes.{OperatorFits, OperatorAnswers, when_some, same_truth, truth_of, bool_of, int_of, AreOf-two, two_integers, one_truth}
 

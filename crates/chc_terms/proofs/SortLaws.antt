@@ -8,7 +8,8 @@ use Rattle.chc_sorts.specs.Signature.{Signature}
 use Rattle.chc_terms.specs.declared.term.Kind.{Kind}
 use Rattle.chc_terms.specs.declared.term.Term.{Term, Term-F, fold-roll-Term}
 use Rattle.chc_terms.specs.declared.term.Term.TheVariants.{Var, Num, Lit, App, Pred, Quant, Call, rolls-Var, rolls-Num, rolls-Lit, rolls-App, rolls-Pred, rolls-Quant, rolls-Call}
-use Rattle.chc_terms.specs.Sorted.{Context, sort_of, sorts_of, sort_step, op_sort, truth_at, result_at, quantifier_sort, is_plain, is_plain_step, is_unquantified, is_unquantified_step, sorts_fit, sorts_fit_step, op_fits, sort_fits}
+use Rattle.chc_sorts.specs.Sorts.{sort_fits}
+use Rattle.chc_terms.specs.Sorted.{Context, sort_of, sorts_of, sort_step, op_sort, truth_at, result_at, declared_quantifier_sort, is_plain, is_plain_step, is_unquantified, is_unquantified_step, sorts_fit, sorts_fit_step, op_fits}
 
 module _ (cx : Context) where
   pub sort_of-Var : (i : ℕ) (vars : List Sort) → sort_of cx (Var i) vars ≡ slice_get vars i
@@ -32,7 +33,7 @@ module _ (cx : Context) where
   unfolding sort_of
   sort_of-Pred p ts vars = λ j. (ap (sort_of cx) (sym (rolls-Pred p ts)) ∙ fold-roll-Term (List Sort → Option Sort) (sort_step cx) (Term-F.Pred p ts)) j vars
 
-  pub sort_of-Quant : (k : Kind) (sorts : List Sort) (t : Term) (vars : List Sort) → sort_of cx (Quant k sorts t) vars ≡ quantifier_sort sorts (sort_of cx t (vars ++ sorts))
+  pub sort_of-Quant : (k : Kind) (sorts : List Sort) (t : Term) (vars : List Sort) → sort_of cx (Quant k sorts t) vars ≡ declared_quantifier_sort cx.sig sorts (sort_of cx t (vars ++ sorts))
   unfolding sort_of
   sort_of-Quant k sorts t vars = λ j. (ap (sort_of cx) (sym (rolls-Quant k sorts t)) ∙ fold-roll-Term (List Sort → Option Sort) (sort_step cx) (Term-F.Quant k sorts t)) j vars
 

@@ -1,5 +1,5 @@
 -- What a term's sort says of its parts, and a list's sorts of its terms.
-use Rattle.std.proofs.Common.{◌≡◌, ℕ, List, [], ◌∷◌, ◌++◌, Option, Some, None, slice_get, option_map, refl, sym, ap, ◌∙◌}
+use Rattle.std.proofs.Common.{◌≡◌, ℕ, Bool, true, false, cond, List, [], ◌∷◌, ◌++◌, Option, Some, None, slice_get, option_map, refl, sym, ap, ◌∙◌}
 use Rattle.std.proofs.lemmas.Option.{none-some, same_Some}
 use Rattle.chc_sorts.specs.declared.sort.Sort.{Sort}
 use Rattle.chc_sorts.specs.declared.sort.Sort.TheVariants as sort
@@ -8,7 +8,8 @@ use Rattle.chc_terms.specs.declared.fun_sort.FunSort.{FunSort}
 use Rattle.chc_terms.specs.declared.term.Kind.{Kind}
 use Rattle.chc_terms.specs.declared.term.Term.{Term}
 use Rattle.chc_terms.specs.declared.term.Term.TheVariants.{App, Pred, Quant, Call}
-use Rattle.chc_terms.specs.Sorted.{Context, sort_of, sorts_of, op_sort, truth_at, result_at, quantifier_sort, same_sort, same_sorts}
+use Rattle.chc_sorts.specs.Sorts.{same_sort, same_sorts}
+use Rattle.chc_terms.specs.Sorted.{Context, sort_of, sorts_of, op_sort, truth_at, result_at, quantifier_sort, are_declared}
 use Rattle.chc_terms.proofs.SameSort.{same_from_test, same_sorts_from_test}
 use Rattle.chc_terms.proofs.SortLaws.{sort_of-App, sort_of-Pred, sort_of-Quant, sort_of-Call}
 use Rattle.chc_terms.proofs.OperatorShapes.{when_some, led_on}
@@ -78,9 +79,22 @@ module _ (cx : Context) (vars : List Sort) where
           let w = when_some (same_sorts sorts f.params) f.result s e in
           record { definition = f; each = each ∙ ap Some (same_sorts_from_test sorts f.params w.0); declared = d; result = w.1 }
 
+  -- the sort of a quantifier, and that its sorts are declared
+  pub quant_declared : (k : Kind) (sorts : List Sort) (t : Term) (s : Sort) → sort_of cx (Quant k sorts t) vars ≡ Some s
+      → (are_declared cx.sig sorts ≡ true) × (quantifier_sort sorts (sort_of cx t (vars ++ sorts)) ≡ Some s)
+  quant_declared k sorts t s h = at (are_declared cx.sig sorts) (sym (sort_of-Quant cx k sorts t vars) ∙ h)
+    where
+      at : (b : Bool) → cond b (quantifier_sort sorts (sort_of cx t (vars ++ sorts))) None ≡ Some s → (b ≡ true) × (quantifier_sort sorts (sort_of cx t (vars ++ sorts)) ≡ Some s)
+      at true e = (refl, e)
+      at false e = absurd (none-some s e)
+
+  -- the sort of a quantifier whose sorts are declared
+  pub sort_of_quantifier : (k : Kind) (sorts : List Sort) (t : Term) → are_declared cx.sig sorts ≡ true → sort_of cx (Quant k sorts t) vars ≡ quantifier_sort sorts (sort_of cx t (vars ++ sorts))
+  sort_of_quantifier k sorts t h = sort_of-Quant cx k sorts t vars ∙ ap (λ b. cond b (quantifier_sort sorts (sort_of cx t (vars ++ sorts))) None) h
+
   -- the body of a quantifier is a truth value
   pub quant_sorts : (k : Kind) (sorts : List Sort) (t : Term) (s : Sort) → sort_of cx (Quant k sorts t) vars ≡ Some s → (sort_of cx t (vars ++ sorts) ≡ Some sort.Bool) × (sort.Bool ≡ s)
-  quant_sorts k sorts t s h = at sorts (sort_of cx t (vars ++ sorts)) (sym (sort_of-Quant cx k sorts t vars) ∙ h)
+  quant_sorts k sorts t s h = at sorts (sort_of cx t (vars ++ sorts)) (quant_declared k sorts t s h).1
     where
       at : (bound : List Sort) (o : Option Sort) → quantifier_sort bound o ≡ Some s → (o ≡ Some sort.Bool) × (sort.Bool ≡ s)
       at [] o e = absurd (none-some s e)

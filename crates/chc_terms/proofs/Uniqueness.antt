@@ -16,7 +16,8 @@ use Rattle.chc_terms.specs.declared.term.Kind.TheVariants as kind
 use Rattle.chc_terms.specs.declared.term.Term.{Term}
 use Rattle.chc_terms.specs.declared.term.Term.TheVariants.{Quant}
 use Rattle.chc_terms.specs.Has.{Meaning, Has, EachHas, AllHave, SomeHas, ChoiceHas, AppHas, QuantHas, Applies}
-use Rattle.chc_terms.specs.Sorted.{Context, sort_of, sorts_of, op_sort, are_truths, choice_sort, same_sort}
+use Rattle.chc_sorts.specs.Sorts.{same_sort}
+use Rattle.chc_terms.specs.Sorted.{Context, sort_of, sorts_of, op_sort, are_truths, choice_sort}
 use Rattle.chc_terms.specs.Laws.{Means, IsFunctional}
 use Rattle.chc_terms.proofs.Induction.{TermCases, term_ind}
 use Rattle.chc_terms.proofs.HasLaws.{Has-Var, Has-Num, Has-Lit, Has-App, Has-Pred, Has-Quant, Has-Call}

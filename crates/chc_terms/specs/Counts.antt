@@ -1,5 +1,5 @@
 -- What is counted of a term. Leaves have size and depth 1, and every other node adds 1.
-use Rattle.std.specs.Prelude.{ℕ, ◌+◌, max, List, [], ◌∷◌, map, sum}
+use Rattle.std.specs.Prelude.{ℕ, ◌+◌, max, cond, nat_eq, List, [], ◌∷◌, map, sum}
 use Rattle.chc_terms.specs.declared.term.Term.{Term, Term-F, fold-Term}
 
 -- the greatest of the numbers, or 0
@@ -38,3 +38,19 @@ size_all ts = sum (map size ts)
 
 abbrev pub depth_all : List Term → ℕ
 depth_all ts = greatest (map depth ts)
+
+abbrev pub occurrences_step : ℕ → Term-F ℕ → ℕ
+occurrences_step var (Term-F.Var i) = cond (nat_eq i var) 1 0
+occurrences_step var (Term-F.Num n) = 0
+occurrences_step var (Term-F.Lit b) = 0
+occurrences_step var (Term-F.App o ns) = sum ns
+occurrences_step var (Term-F.Pred p ns) = sum ns
+occurrences_step var (Term-F.Quant k sorts n) = n
+occurrences_step var (Term-F.Call k ns) = sum ns
+
+-- how many nodes of the term are the variable of that number
+abbrev pub occurrences : ℕ → Term → ℕ
+occurrences var = fold-Term ℕ (occurrences_step var)
+
+abbrev pub occurrences_all : ℕ → List Term → ℕ
+occurrences_all var ts = sum (map (occurrences var) ts)

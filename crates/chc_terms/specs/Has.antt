@@ -1,5 +1,5 @@
 -- The value of a term: `Has`. Numbers are unbounded, and what the standard leaves open is read from a world.
-use Rattle.std.specs.Prelude.{◌≡◌, ◌≢◌, ◌⊎◌, ◌↔◌, ℕ, ℤ, pos, ◌+ℤ◌, ◌-ℤ◌, ◌*ℤ◌, ◌≤ℤ◌, ◌<ℤ◌, Bool, true, false, not, IsTrue, nat_abs, nat_eq, List, [], ◌∷◌, ◌++◌, Some, Contains, slice_get}
+use Rattle.std.specs.Prelude.{◌≡◌, ◌≢◌, ◌⊎◌, ◌↔◌, ℕ, ℤ, pos, ◌+ℤ◌, ◌-ℤ◌, ◌*ℤ◌, ◌≤ℤ◌, ◌<ℤ◌, Bool, true, false, not, IsTrue, nat_abs, nat_eq, List, [], ◌∷◌, ◌++◌, Some, slice_get}
 use Rattle.chc_sorts.specs.declared.sort.Sort.{Sort}
 use Rattle.chc_sorts.specs.declared.op.Op.{Op}
 use Rattle.chc_sorts.specs.declared.op.Op.TheVariants as op
@@ -7,7 +7,8 @@ use Rattle.chc_sorts.specs.Signature.{Signature}
 use Rattle.chc_values.specs.declared.value.Value.{Value}
 use Rattle.chc_values.specs.declared.value.Value.TheVariants as value
 use Rattle.chc_values.specs.declared.world.WorldEntry.{WorldEntry}
-use Rattle.chc_values.specs.Values.{AreOf, IsCanonical}
+use Rattle.chc_values.specs.Values.{AreOf}
+use Rattle.chc_values.specs.Arrays.{HasAt, Stores}
 use Rattle.chc_values.specs.Worlds.{DividesByZero, LeavesByZero, SelectsOpen}
 use Rattle.chc_terms.specs.declared.term.Kind.{Kind}
 use Rattle.chc_terms.specs.declared.term.Kind.TheVariants as kind
@@ -20,15 +21,6 @@ Meaning = ℕ → List Value → Value → Type 0
 -- q and r are the quotient and the rest of m by n: m = n * q + r, and r is at least 0 and below |n|
 abbrev pub Divides : ℤ → ℤ → ℤ → ℤ → Type 0
 Divides m n q r = (m ≡ (n *ℤ q) +ℤ r) × (pos 0 ≤ℤ r) × (r <ℤ pos (nat_abs n))
-
--- the array with this default and these exceptions has v at the index i
-abbrev pub HasAt : Value → List (ℤ × Value) → ℤ → Value → Type 0
-HasAt default exceptions i v = Contains exceptions (i, v) ⊎ (((u : Value) → Contains exceptions (i, u) → ⊥) × (v ≡ default))
-
--- the first array's exceptions with v at the index i, and as before at every other index, are the second
-abbrev pub Stores : Value → List (ℤ × Value) → ℤ → Value → List (ℤ × Value) → Type 0
-Stores default old i v new =
-    IsCanonical default new × HasAt default new i v × ((j : ℤ) (u : Value) → j ≢ i → HasAt default old j u → HasAt default new j u)
 
 -- the operators whose value follows from all their arguments' values
 abbrev pub Applies : Signature → List WorldEntry → Op → List Value → Value → Type 0

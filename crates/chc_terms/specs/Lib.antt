@@ -2,3 +2,9 @@ pub mod Counts
 pub mod Has
 pub mod Sorted
 pub mod Laws
+pub mod ValueTerms
+pub mod Shifted
+pub mod Alike
+pub mod ShiftLaws
+pub mod Judged
+pub mod Demands

@@ -1,36 +1,18 @@
 -- The sort of a term, where it is well sorted.
-use Rattle.std.specs.Prelude.{ℕ, ◌+◌, Bool, true, false, ◌&&◌, cond, nat_eq, nat_lt, List, [], ◌∷◌, ◌++◌, length, map, Option, Some, None, slice_get, is_some}
+use Rattle.std.specs.Prelude.{ℕ, Bool, true, false, ◌&&◌, cond, List, [], ◌∷◌, ◌++◌, map, Option, Some, None, slice_get, is_some}
 use Rattle.std.specs.List.{list_all}
 use Rattle.std.specs.Option.{option_and_then, option_map}
 use Rattle.chc_sorts.specs.declared.sort.Sort.{Sort, Sort-F, fold-Sort, out-Sort}
 use Rattle.chc_sorts.specs.declared.sort.Sort.TheVariants as sort
 use Rattle.chc_sorts.specs.declared.op.Op.{Op}
 use Rattle.chc_sorts.specs.declared.op.Op.TheVariants as op
-use Rattle.chc_sorts.specs.declared.sig.Data.{Data}
-use Rattle.chc_sorts.specs.declared.sig.Ctor.{Ctor}
-use Rattle.chc_sorts.specs.declared.sig.Field.{Field}
+use Rattle.chc_sorts.specs.declared.data.Data.{Data}
+use Rattle.chc_sorts.specs.declared.data.Ctor.{Ctor}
+use Rattle.chc_sorts.specs.declared.data.Field.{Field}
 use Rattle.chc_sorts.specs.Signature.{Signature}
+use Rattle.chc_sorts.specs.Sorts.{same_sort, same_sorts, is_declared_step, sort_fits}
 use Rattle.chc_terms.specs.declared.fun_sort.FunSort.{FunSort}
 use Rattle.chc_terms.specs.declared.term.Term.{Term, Term-F, fold-Term}
-
--- one level of `same_sort`
-abbrev pub same_level : Sort-F (Sort → Bool) → Sort-F Sort → Bool
-same_level Sort-F.Bool Sort-F.Bool = true
-same_level Sort-F.Int Sort-F.Int = true
-same_level (Sort-F.Data d) (Sort-F.Data e) = nat_eq d e
-same_level (Sort-F.Array same) (Sort-F.Array s) = same s
-same_level x y = false
-
--- whether the two are the same sort
-abbrev pub same_sort : Sort → Sort → Bool
-same_sort = fold-Sort (Sort → Bool) (λ level s. same_level level (out-Sort s))
-
--- whether the two lists have the same sorts in order
-abbrev pub same_sorts : List Sort → List Sort → Bool
-same_sorts [] [] = true
-same_sorts [] (t ∷ ts) = false
-same_sorts (s ∷ ss) [] = false
-same_sorts (s ∷ ss) (t ∷ ts) = same_sort s t && same_sorts ss ts
 
 -- the element sort of an array sort
 abbrev pub element_at : Sort-F Sort → Option Sort
@@ -45,6 +27,14 @@ element_of s = element_at (out-Sort s)
 -- the sorts of the fields of constructor c of the datatype d
 abbrev pub fields_of : Signature → ℕ → ℕ → Option (List Sort)
 fields_of sig d c = option_and_then (λ (t : Data). option_map (λ (k : Ctor). map (λ (f : Field). f.sort) k.fields) (slice_get t.ctors c)) (slice_get sig.datatypes d)
+
+-- whether the sort names datatypes of the signature alone
+abbrev pub is_declared : Signature → Sort → Bool
+is_declared sig = fold-Sort Bool (is_declared_step sig)
+
+-- whether all of the sorts do
+abbrev pub are_declared : Signature → List Sort → Bool
+are_declared sig sorts = list_all (is_declared sig) sorts
 
 -- the sort, where the test holds
 abbrev pub when : Bool → Sort → Option Sort
@@ -102,7 +92,7 @@ op_sort sig op.Le sorts = when (same_sorts sorts (sort.Int ∷ sort.Int ∷ []))
 op_sort sig op.Lt sorts = when (same_sorts sorts (sort.Int ∷ sort.Int ∷ [])) sort.Bool
 op_sort sig op.Select sorts = read_sort sorts
 op_sort sig op.Store sorts = write_sort sorts
-op_sort sig (op.Const element) sorts = when (same_sorts sorts (element ∷ [])) (sort.Array element)
+op_sort sig (op.Const element) sorts = when (is_declared sig element && same_sorts sorts (element ∷ [])) (sort.Array element)
 op_sort sig (op.Make d c) sorts = option_and_then (λ fields. when (same_sorts sorts fields) (sort.Data d)) (fields_of sig d c)
 op_sort sig (op.Get d c i) sorts = option_and_then (λ fields. option_and_then (λ s. when (same_sorts sorts (sort.Data d ∷ [])) s) (slice_get fields i)) (fields_of sig d c)
 op_sort sig (op.Is d c) sorts = when (is_some (fields_of sig d c) && same_sorts sorts (sort.Data d ∷ [])) sort.Bool
@@ -128,6 +118,10 @@ quantifier_sort [] body = None
 quantifier_sort (s ∷ sorts) None = None
 quantifier_sort (s ∷ sorts) (Some body) = when (same_sort body sort.Bool) sort.Bool
 
+-- the same, where the sorts of the variables name datatypes of the signature alone
+abbrev pub declared_quantifier_sort : Signature → List Sort → Option Sort → Option Sort
+declared_quantifier_sort sig sorts body = cond (are_declared sig sorts) (quantifier_sort sorts body) None
+
 -- the list of what all of them give, if all do
 abbrev pub all_some : {X : Type 0} → List (Option X) → Option (List X)
 all_some [] = Some []
@@ -143,7 +137,7 @@ sort_step cx (Term-F.Num n) vars = Some sort.Int
 sort_step cx (Term-F.Lit b) vars = Some sort.Bool
 sort_step cx (Term-F.App o terms) vars = option_and_then (op_sort cx.sig o) (sorts_under vars terms)
 sort_step cx (Term-F.Pred p terms) vars = option_and_then (λ sorts. truth_at sorts (slice_get cx.preds p)) (sorts_under vars terms)
-sort_step cx (Term-F.Quant k sorts body) vars = quantifier_sort sorts (body (vars ++ sorts))
+sort_step cx (Term-F.Quant k sorts body) vars = declared_quantifier_sort cx.sig sorts (body (vars ++ sorts))
 sort_step cx (Term-F.Call k terms) vars = option_and_then (λ sorts. result_at sorts (slice_get cx.defs k)) (sorts_under vars terms)
 
 -- the sort of a term under variables of these sorts, where it is well sorted
@@ -179,26 +173,6 @@ is_unquantified_step (Term-F.Call k parts) = list_all (λ b. b) parts
 -- whether the term has no quantifier in it
 unfoldable pub is_unquantified : Term → Bool
 is_unquantified = fold-Term Bool is_unquantified_step
-
-abbrev pub sort_depth_step : Sort-F ℕ → ℕ
-sort_depth_step Sort-F.Bool = 1
-sort_depth_step Sort-F.Int = 1
-sort_depth_step (Sort-F.Data d) = 1
-sort_depth_step (Sort-F.Array n) = n + 1
-
--- the depth of a sort; Int has 1
-abbrev pub sort_depth : Sort → ℕ
-sort_depth = fold-Sort ℕ sort_depth_step
-
-abbrev pub is_declared_step : Signature → Sort-F Bool → Bool
-is_declared_step sig Sort-F.Bool = true
-is_declared_step sig Sort-F.Int = true
-is_declared_step sig (Sort-F.Data d) = nat_lt d (length sig.datatypes)
-is_declared_step sig (Sort-F.Array element) = element
-
--- whether the sort names datatypes of the signature alone, and is at most 16 deep
-abbrev pub sort_fits : Signature → Sort → Bool
-sort_fits sig s = fold-Sort Bool (is_declared_step sig) s && nat_lt (sort_depth s) 17
 
 -- whether the sort that the operator holds, if any, fits
 abbrev pub op_fits : Signature → Op → Bool
