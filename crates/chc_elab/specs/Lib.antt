@@ -1,0 +1,13 @@
+pub mod Limits
+pub mod Apart
+pub mod Sites
+pub mod SortTrees
+pub mod Heads
+pub mod Building
+pub mod Builds
+pub mod Binders
+pub mod Forms
+pub mod Reads
+pub mod Rooms
+pub mod Settings
+pub mod Stands
