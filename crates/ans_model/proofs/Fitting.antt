@@ -3,7 +3,7 @@ use Rattle.std.proofs.Common.{◌≡◌, true}
 use Rattle.std.proofs.lemmas.Bool.{or_left}
 use Rattle.chc_sorts.specs.Signature.{Signature}
 use Rattle.chc_sorts.specs.declared.sort.Sort.TheVariants as sort
-use Rattle.chc_terms.specs.Sorted.{same_sort, sort_fits}
+use Rattle.chc_sorts.specs.Sorts.{same_sort, sort_fits}
 use Rattle.chc_terms.proofs.SameSort.{same_itself}
 use Rattle.ans_model.proofs.Sorting.{sort_good}
 

@@ -2,7 +2,7 @@
 use Rattle.std.proofs.Common.{◌≡◌, Bool, true, false, List, length, map, refl, ap, arith}
 use Rattle.std.proofs.lemmas.List.{length-map}
 use Rattle.chc_sorts.specs.declared.sort.Sort.{Sort}
-use Rattle.chc_terms.specs.Sorted.{same_sorts}
+use Rattle.chc_sorts.specs.Sorts.{same_sorts}
 use Rattle.chc_terms.proofs.SameSort.{same_sort-Bool, same_sort-Int, same_sort-Data, same_sort-Array, same_sorts_from_test}
 use Rattle.ans_model.specs.declared.typed.Typed.{Typed}
 

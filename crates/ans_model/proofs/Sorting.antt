@@ -18,9 +18,12 @@ use Rattle.chc_terms.specs.declared.fun_sort.FunSort.{FunSort}
 use Rattle.chc_terms.specs.declared.term.Kind.{Kind}
 use Rattle.chc_terms.specs.declared.term.Term.{Term, fold-roll-Term, Term-F}
 use Rattle.chc_terms.specs.declared.term.Term.TheVariants as term
-use Rattle.chc_terms.specs.Sorted.{Context, all_some, sort_of, sorts_of, op_sort, op_fits, when, are_truths, equation_sort, same_sort, same_sorts, quantifier_sort, sort_fits, sorts_fit, is_declared_step, sort_depth, sort_depth_step}
+use Rattle.chc_sorts.specs.Sorts.{same_sort, same_sorts, sort_fits, is_declared_step, sort_depth, sort_depth_step}
+use Rattle.chc_terms.specs.Sorted.{Context, all_some, sort_of, sorts_of, op_sort, op_fits, when, are_truths, equation_sort, quantifier_sort, sorts_fit}
 use Rattle.chc_terms.proofs.SameSort.{same_from_test, same_sorts_from_test, same_itself, both_true}
-use Rattle.chc_terms.proofs.SortLaws.{sort_of-Var, sort_of-Num, sort_of-Lit, sort_of-App, sort_of-Quant, sorts_fit-Var, sorts_fit-Num, sorts_fit-Lit, sorts_fit-App, sorts_fit-Quant}
+use Rattle.chc_terms.proofs.SortSteps.{sort_of_quantifier}
+use Rattle.chc_terms.proofs.SortTests.{fits_declared}
+use Rattle.chc_terms.proofs.SortLaws.{sort_of-Var, sort_of-Num, sort_of-Lit, sort_of-App, sorts_fit-Var, sorts_fit-Num, sorts_fit-Lit, sorts_fit-App, sorts_fit-Quant}
 use Rattle.ans_model.specs.Bodies.{Reading, number, literal_of, symbol_term, op_named, turned_named, turned, exchanged, named_term, applied, negated, negation, operation, quantified, kind_of, quantification, headed, group_term, beside, typed_of, typed_all, is_read_op}
 use Rattle.ans_model.specs.Models.{is_answer_sort, is_answer_op, is_answer_number, are_bound_sorts, is_answer_step, is_answer_term}
 use Rattle.chc_sexpr.specs.Readings.{◌>>=◌}
@@ -243,7 +246,7 @@ module _ (sig : Signature) (preds : List (List Sort)) (defs : List FunSort) wher
       let sorts = sorts_in bs in
       let made = map_some (λ s. record { term = term.Quant k sorts x.term; sort = s }) (quantifier_sort sorts (Some x.sort)) t h in
       subst (Good vars) made.2 (record {
-        sorted = sort_of-Quant cx k sorts x.term vars ∙ ap (quantifier_sort sorts) g.sorted ∙ made.1;
+        sorted = sort_of_quantifier cx vars k sorts x.term (fits_declared sig sorts (sorts_good sig sorts all)) ∙ ap (quantifier_sort sorts) g.sorted ∙ made.1;
         fits = sorts_fit-Quant sig k sorts x.term ∙ both (list_all (sort_fits sig) sorts) (sorts_fit sig x.term) (sorts_good sig sorts all) g.fits;
         answer = is_answer-Quant k sorts x.term ∙ both (are_bound_sorts sorts) (is_answer_term x.term) (bound_sorts sorts made.0 made.1 all) g.answer;
       })

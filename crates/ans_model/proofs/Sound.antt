@@ -11,7 +11,8 @@ use Rattle.chc_sorts.specs.declared.sort.Sort.{Sort}
 use Rattle.chc_sorts.specs.declared.sort.Sort.TheVariants as sort
 use Rattle.chc_sexpr.specs.declared.tree.Tree.{Tree}
 use Rattle.chc_terms.specs.declared.fun_sort.FunSort.{FunSort}
-use Rattle.chc_terms.specs.Sorted.{Context, sort_of, same_sort, same_sorts, sort_fits, sorts_fit}
+use Rattle.chc_sorts.specs.Sorts.{same_sort, same_sorts, sort_fits}
+use Rattle.chc_terms.specs.Sorted.{Context, sort_of, sorts_fit}
 use Rattle.chc_terms.proofs.SameSort.{same_from_test, same_sorts_from_test, same_itself, both_true}
 use Rattle.chc_state.specs.declared.clause.PredDecl.{PredDecl}
 use Rattle.chc_state.specs.declared.defs.Def.{Def}

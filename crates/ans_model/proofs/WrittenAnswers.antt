@@ -12,7 +12,8 @@ use Rattle.chc_sexpr.specs.Names.{AreNames}
 use Rattle.chc_sexpr.specs.Spelling.{is_quotable}
 use Rattle.chc_sexpr.specs.declared.tree.Tree.{Tree}
 use Rattle.chc_sexpr.proofs.Written.{Writes, TreesAt, no_more_at, next_at, spells_from}
-use Rattle.chc_terms.specs.Sorted.{Context, same_sorts}
+use Rattle.chc_sorts.specs.Sorts.{same_sorts}
+use Rattle.chc_terms.specs.Sorted.{Context}
 use Rattle.chc_terms.proofs.SameSort.{same_sorts_itself}
 use Rattle.chc_state.specs.declared.clause.PredDecl.{PredDecl}
 use Rattle.chc_state.specs.declared.defs.Def.{Def}
@@ -20,8 +21,9 @@ use Rattle.chc_state.specs.declared.defs.Defs.{Defs}
 use Rattle.chc_state.specs.States.{StateView}
 use Rattle.chc_state.specs.Definitions.{Defines, DefinedAs, context_before}
 use Rattle.chc_print.specs.Prefix.{marked}
-use Rattle.chc_print.specs.Symbols.{symbol_text}
-use Rattle.chc_print.specs.Texts.{Names, name_at, or_empty, joined, sort_text, binder_texts, term_text}
+use Rattle.chc_sexpr.specs.Symbols.{symbol_text}
+use Rattle.chc_sexpr.specs.Writing.{joined}
+use Rattle.chc_print.specs.Texts.{Names, name_at, or_empty, sort_text, binder_texts, term_text}
 use Rattle.chc_print.specs.Script.{script_names}
 use Rattle.chc_print.proofs.Room.{binders_joined}
 use Rattle.ans_model.specs.Texts.{definition_text, definitions_text, lines_of_defs, AreOwners, IsDefsText}

@@ -10,10 +10,11 @@ use Rattle.chc_sorts.specs.declared.sort.Sort.TheVariants as sort
 use Rattle.chc_sexpr.specs.declared.tree.Tree.{Tree}
 use Rattle.chc_sexpr.specs.declared.tree.Tree.TheVariants.{Group}
 use Rattle.chc_sexpr.proofs.Written.{Writes, TreesAt, is_parted, no_more_at, next_at}
-use Rattle.chc_terms.specs.Sorted.{same_sort}
+use Rattle.chc_sorts.specs.Sorts.{same_sort}
 use Rattle.chc_terms.proofs.SameSort.{same_from_test}
 use Rattle.chc_print.specs.Prefix.{marked}
-use Rattle.chc_print.specs.Texts.{Names, spaced, joined, sort_text, sort_step, variable_text, binder_text, binder_texts}
+use Rattle.chc_sexpr.specs.Writing.{spaced, joined}
+use Rattle.chc_print.specs.Texts.{Names, sort_text, sort_step, variable_text, binder_text, binder_texts}
 use Rattle.ans_model.specs.Models.{is_answer_sort}
 use Rattle.chc_sexpr.specs.Readings.{◌>>=◌}
 use Rattle.ans_model.specs.Scopes.{Binder, sort_named, sort_written, binder_at, binder_parts, binder_of, with_binder, binders_after, binders_of}

@@ -13,8 +13,9 @@ use Rattle.chc_terms.specs.Sorted.{Context, sort_of}
 use Rattle.chc_terms.proofs.SameSort.{same_itself}
 use Rattle.chc_state.specs.declared.defs.Def.{Def}
 use Rattle.chc_print.specs.Prefix.{marked}
-use Rattle.chc_print.specs.Symbols.{symbol_text}
-use Rattle.chc_print.specs.Texts.{Names, joined, sort_text, binder_texts, term_text}
+use Rattle.chc_sexpr.specs.Symbols.{symbol_text}
+use Rattle.chc_sexpr.specs.Writing.{joined}
+use Rattle.chc_print.specs.Texts.{Names, sort_text, binder_texts, term_text}
 use Rattle.ans_model.specs.Texts.{definition_text}
 use Rattle.ans_model.specs.Models.{IsAnswerDef, is_small, most_nodes, most_depth, named, body_at, definition_over, definition_parts, definition_at, definition_of}
 use Rattle.chc_sexpr.specs.Readings.{◌>>=◌}

@@ -1,11 +1,11 @@
 -- Names, variables and numerals are written as trees of their own.
-use Rattle.std.proofs.Common.{◌≡◌, ◌∙◌, refl, ℕ, zero, suc, ◌<◌, ◌^◌, pos, Bool, true, false, not, ◌&&◌, ◌||◌, cond, List, [], ◌∷◌, ◌++◌, replicate, codes, arith}
+use Rattle.std.proofs.Common.{◌≡◌, ◌∙◌, refl, ℕ, zero, suc, ◌<◌, ◌^◌, pos, true, not, ◌||◌, List, [], ◌∷◌, ◌++◌, replicate, arith}
 use Rattle.std.specs.Prelude.{IsTrue, decimal}
 use Rattle.std.specs.List.{list_all}
 use Rattle.std.specs.Char.{digit_value, is_ascii_alphanumeric}
 use Rattle.std.specs.Int.{is_in_range}
 use Rattle.std.specs.Str.Parse.{AllDigits}
-use Rattle.std.proofs.lemmas.Bool.{and_parts, and_from, or_left, le-leb}
+use Rattle.std.proofs.lemmas.Bool.{and_from, or_left, le-leb}
 use Rattle.std.proofs.lemmas.List.Folds.{list_all-append}
 use Rattle.std.proofs.lemmas.Fmt.{decimal_is_IsNumeral_wide}
 use Rattle.std.proofs.lemmas.Str.Parse.{digit_from_value}
@@ -13,8 +13,8 @@ use Rattle.chc_sexpr.specs.Tokens.{is_symbol_byte, is_symbol_sign, is_simple_sym
 use Rattle.chc_sexpr.specs.Spelling.{is_quotable}
 use Rattle.chc_sexpr.specs.declared.tree.Tree.{Tree}
 use Rattle.chc_sexpr.specs.declared.tree.Tree.TheVariants.{Symbol, Word, Numeral}
-use Rattle.chc_sexpr.proofs.Written.{Writes, symbol_at, quoted_at, word_at, numeral_at}
-use Rattle.chc_print.specs.Symbols.{is_bare, is_command_name, symbol_text}
+use Rattle.chc_sexpr.proofs.Written.{Writes, symbol_at, word_at, numeral_at, name_writes as written_name}
+use Rattle.chc_sexpr.specs.Symbols.{symbol_text}
 use Rattle.chc_print.specs.Prefix.{marked}
 
 -- the tree is the symbol of that name, somewhere
@@ -41,18 +41,9 @@ word_writes deep word reserved place after parted = word_at (IsWordOf word) deep
 pub numeral_writes : (deep n : ℕ) → n < 2 ^ 127 → Writes (IsNumeralOf n) deep (decimal n)
 numeral_writes deep n small place after parted = numeral_at (IsNumeralOf n) deep place n after parted small (place, refl)
 
-name_writes_by : (deep : ℕ) (name : List ℕ) (bare : Bool) → is_bare name ≡ bare → IsTrue (list_all is_quotable name)
-    → Writes (IsSymbolOf name) deep (cond bare name (codes "|" ++ name ++ codes "|"))
-name_writes_by deep name true e quotable =
-    let symbol = and_parts (is_simple_symbol name && not (is_reserved name)) (not (is_command_name name)) e in
-    let parts = and_parts (is_simple_symbol name) (not (is_reserved name)) symbol.0 in
-    bare_writes deep name parts.0 parts.1
-name_writes_by deep name false e quotable = λ place after parted. quoted_at (IsSymbolOf name) deep place name after quotable (place, refl)
-
 -- a name is written as its symbol
 pub name_writes : (deep : ℕ) (name : List ℕ) → IsTrue (list_all is_quotable name) → Writes (IsSymbolOf name) deep (symbol_text name)
-unfolding symbol_text
-name_writes deep name quotable = name_writes_by deep name (is_bare name) refl quotable
+name_writes deep name quotable = written_name (IsSymbolOf name) deep name quotable (λ place. (place, refl))
 
 symbol_digit : (c : ℕ) → digit_value c < 10 → is_symbol_byte c ≡ true
 symbol_digit c h =

@@ -22,9 +22,11 @@ use Rattle.chc_terms.specs.Counts.{depth, depth_all}
 use Rattle.chc_terms.specs.Sorted.{Context, sort_of, sorts_of, op_sort, all_some, quantifier_sort}
 use Rattle.chc_terms.proofs.CountLaws.{depth-App, depth-Quant}
 use Rattle.chc_terms.proofs.Induction.{term_ind}
-use Rattle.chc_terms.proofs.SortLaws.{sort_of-Var, sort_of-Num, sort_of-Lit, sort_of-App, sort_of-Quant}
+use Rattle.chc_terms.proofs.SortSteps.{quant_declared}
+use Rattle.chc_terms.proofs.SortLaws.{sort_of-Var, sort_of-Num, sort_of-Lit, sort_of-App}
 use Rattle.chc_print.specs.Prefix.{marked}
-use Rattle.chc_print.specs.Texts.{Names, spaced, joined, number_text, truth_text, op_text, kind_text, variable_text, binder_texts, quantified, term_text, term_texts}
+use Rattle.chc_sexpr.specs.Writing.{spaced, joined}
+use Rattle.chc_print.specs.Texts.{Names, number_text, truth_text, op_text, kind_text, variable_text, binder_texts, quantified, term_text, term_texts}
 use Rattle.chc_print.proofs.Room.{binders_joined}
 use Rattle.ans_model.specs.Bodies as body
 use Rattle.ans_model.specs.Bodies.{beside, literal_of, negation, typed_of}
@@ -253,7 +255,7 @@ module _ (names : Names) (marks : ℕ) (form : names.prefix ≡ marked marks) (c
   quant_written : (k : Kind) (sorts : List Sort) (t : Term) → IsWritten t → IsWritten (Quant k sorts t)
   quant_written k sorts t ih vars s answer sorted room =
       let parts = and_parts (are_bound_sorts sorts) (is_answer_term t) (sym (answer-Quant k sorts t) ∙ answer) in
-      let found = body_sort sorts (sort_of cx t (vars ++ sorts)) s (sym (sort_of-Quant cx k sorts t vars) ∙ sorted) in
+      let found = body_sort sorts (sort_of cx t (vars ++ sorts)) s (quant_declared cx vars k sorts t s sorted).1 in
       let under : ℕ = length vars + length sorts in
       let together : length (vars ++ sorts) ≡ under = length-append vars sorts in
       let word : List ℕ = kind_text k in

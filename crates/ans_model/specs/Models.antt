@@ -12,7 +12,7 @@ use Rattle.chc_sexpr.specs.declared.tree.Tree.{Tree}
 use Rattle.chc_sexpr.specs.Spelling.{Spells}
 use Rattle.chc_terms.specs.declared.term.Term.{Term, Term-F, fold-Term}
 use Rattle.chc_terms.specs.Counts.{size, depth}
-use Rattle.chc_terms.specs.Sorted.{same_sort, same_sorts}
+use Rattle.chc_sorts.specs.Sorts.{same_sort, same_sorts}
 use Rattle.chc_state.specs.declared.clause.PredDecl.{PredDecl}
 use Rattle.chc_state.specs.declared.defs.Def.{Def}
 use Rattle.chc_state.specs.declared.defs.Defs.{Defs}

@@ -3,9 +3,10 @@ use Rattle.std.specs.Prelude.{◌≡◌, ◌<◌, ◌+◌, ℕ, List, [], ◌∷
 use Rattle.chc_state.specs.declared.defs.Def.{Def}
 use Rattle.chc_state.specs.declared.defs.Defs.{Defs}
 use Rattle.chc_state.specs.States.{StateView}
-use Rattle.chc_print.specs.Symbols.{symbol_text}
+use Rattle.chc_sexpr.specs.Symbols.{symbol_text}
 use Rattle.chc_print.specs.Prefix.{used_names, IsVariablePrefix}
-use Rattle.chc_print.specs.Texts.{Names, name_at, joined, sort_text, binder_texts, term_text}
+use Rattle.chc_sexpr.specs.Writing.{joined}
+use Rattle.chc_print.specs.Texts.{Names, name_at, sort_text, binder_texts, term_text}
 use Rattle.chc_print.specs.Script.{script_names}
 
 -- the definition of a name up to its body; the parameters are numbered from 0

@@ -1,7 +1,7 @@
 //! Sorts that are told apart.
 
 ghost use Rattle.std.specs.Prelude.{◌≡◌};
-ghost use Rattle.chc_terms.specs.Sorted.{same_sort, same_sorts};
+ghost use Rattle.chc_sorts.specs.Sorts.{same_sort, same_sorts};
 
 use chc_sorts::Sort;
 

@@ -4,7 +4,7 @@ ghost use Rattle.std.specs.Prelude.{◌≡◌, ◌∷◌, [], length, IfOk, IsTr
 ghost use Rattle.std.specs.List.{list_all};
 ghost use Rattle.chc_sorts.specs.Signature.{no_datatypes};
 ghost use Rattle.chc_sexpr.specs.Names.{AreNames};
-ghost use Rattle.chc_terms.specs.Sorted.{sort_fits};
+ghost use Rattle.chc_sorts.specs.Sorts.{sort_fits};
 ghost use Rattle.chc_state.specs.Sorts.{positions_fit};
 
 use crate::read_defs;

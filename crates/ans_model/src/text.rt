@@ -7,7 +7,8 @@ ghost use Rattle.chc_print.specs.Texts.{name_at};
 ghost use Rattle.ans_model.specs.Models.{IsAnswer, SaysModel};
 ghost use Rattle.ans_model.specs.Texts.{signature_text, definition_text, definitions_text, lines_of_defs, AreOwners, IsDefsText};
 
-use chc_print::{Naming, variable_prefix, write_binders, write_sort, write_symbol, write_term};
+use chc_print::{Naming, variable_prefix, write_binders, write_sort, write_term};
+use chc_sexpr::write_symbol;
 use chc_sorts::{List, Name, NoMemory};
 use chc_source::ByteText;
 use chc_state::{Def, Defs, State};

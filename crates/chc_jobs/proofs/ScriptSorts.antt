@@ -7,7 +7,7 @@ use Rattle.std.specs.Str.{bytes_eq}
 use Rattle.std.specs.Prelude.{codes}
 use Rattle.std.proofs.lemmas.Bool.{and_parts, and_from, or_left}
 use Rattle.chc_sorts.specs.declared.sort.Sort.TheVariants as sort
-use Rattle.chc_terms.specs.Sorted.{same_sort}
+use Rattle.chc_sorts.specs.Sorts.{same_sort}
 use Rattle.chc_terms.proofs.SameSort.{same_itself}
 use Rattle.chc_sexpr.specs.declared.tree.Tree.{Tree}
 use Rattle.chc_state.specs.declared.clause.PredDecl.{PredDecl}

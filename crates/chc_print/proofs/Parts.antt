@@ -2,7 +2,8 @@
 use Rattle.std.proofs.Common.{◌≡◌, ◌∙◌, sym, ap, refl, ℕ, ◌+◌, ◌<◌, ◌++◌, List, [], ◌∷◌, length, codes, append_assoc, arith}
 use Rattle.std.proofs.lemmas.List.{length-map, length-append, append-nil}
 use Rattle.chc_state.specs.declared.clause.Clause.{Clause}
-use Rattle.chc_print.specs.Texts.{Names, spaced}
+use Rattle.chc_sexpr.specs.Writing.{spaced}
+use Rattle.chc_print.specs.Texts.{Names}
 use Rattle.chc_print.specs.Script.{part_texts, tail_text, implied}
 
 pub spaced_append : (xs ys : List (List ℕ)) → spaced (xs ++ ys) ≡ spaced xs ++ spaced ys

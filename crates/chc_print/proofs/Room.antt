@@ -3,7 +3,8 @@ use Rattle.std.proofs.Common.{◌≡◌, ℕ, ◌+◌, ◌≤◌, ◌++◌, List
 use Rattle.std.proofs.lemmas.List.{length-append}
 use Rattle.chc_sorts.specs.declared.sort.Sort.{Sort}
 use Rattle.chc_terms.specs.declared.term.Kind.{Kind}
-use Rattle.chc_print.specs.Texts.{Names, spaced, joined, kind_text, binder_text, binder_texts, quantifier_text}
+use Rattle.chc_sexpr.specs.Writing.{spaced, joined}
+use Rattle.chc_print.specs.Texts.{Names, kind_text, binder_text, binder_texts, quantifier_text}
 
 longer : (old text new : List ℕ) → new ≡ old ++ text → length new ≡ length old + length text
 longer old text new e = ap (λ (t : List ℕ). length t) e ∙ length-append old text

@@ -1,4 +1,3 @@
-pub mod Symbols
 pub mod Prefix
 pub mod Texts
 pub mod Script

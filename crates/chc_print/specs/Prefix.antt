@@ -3,9 +3,9 @@ use Rattle.std.specs.Prelude.{◌≡◌, ◌<◌, ◌==◌, ◌&&◌, ◌+◌, �
 use Rattle.std.specs.List.{list_any, flat_map}
 use Rattle.std.specs.Char.{is_ascii_digit}
 use Rattle.chc_sorts.specs.Signature.{Signature}
-use Rattle.chc_sorts.specs.declared.sig.Data.{Data}
-use Rattle.chc_sorts.specs.declared.sig.Ctor.{Ctor}
-use Rattle.chc_sorts.specs.declared.sig.Field.{Field}
+use Rattle.chc_sorts.specs.declared.data.Data.{Data}
+use Rattle.chc_sorts.specs.declared.data.Ctor.{Ctor}
+use Rattle.chc_sorts.specs.declared.data.Field.{Field}
 
 -- the names of a constructor and its selectors
 abbrev pub ctor_names : Ctor → List (List ℕ)

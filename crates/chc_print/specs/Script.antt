@@ -7,9 +7,10 @@ use Rattle.chc_state.specs.declared.clause.Atom.{Atom}
 use Rattle.chc_state.specs.declared.clause.Clause.{Clause}
 use Rattle.chc_state.specs.declared.clause.PredDecl.{PredDecl}
 use Rattle.chc_state.specs.States.{StateView}
-use Rattle.chc_print.specs.Symbols.{symbol_text}
+use Rattle.chc_sexpr.specs.Symbols.{symbol_text}
 use Rattle.chc_print.specs.Prefix.{used_names, IsVariablePrefix}
-use Rattle.chc_print.specs.Texts.{Names, name_at, spaced, joined, applied, sort_text, quantified, term_texts}
+use Rattle.chc_sexpr.specs.Writing.{spaced, joined}
+use Rattle.chc_print.specs.Texts.{Names, name_at, applied, sort_text, quantified, term_texts}
 
 -- an atom
 abbrev pub atom_text : Names → ℕ → Atom → List ℕ

@@ -3,14 +3,15 @@ use Rattle.std.specs.Prelude.{ℕ, suc, ◌+◌, ℤ, pos, negsuc, Bool, true, f
 use Rattle.chc_sorts.specs.declared.sort.Sort.{Sort, Sort-F, fold-Sort}
 use Rattle.chc_sorts.specs.declared.op.Op.{Op}
 use Rattle.chc_sorts.specs.declared.op.Op.TheVariants as op
-use Rattle.chc_sorts.specs.declared.sig.Data.{Data}
-use Rattle.chc_sorts.specs.declared.sig.Ctor.{Ctor}
-use Rattle.chc_sorts.specs.declared.sig.Field.{Field}
+use Rattle.chc_sorts.specs.declared.data.Data.{Data}
+use Rattle.chc_sorts.specs.declared.data.Ctor.{Ctor}
+use Rattle.chc_sorts.specs.declared.data.Field.{Field}
 use Rattle.chc_sorts.specs.Signature.{Signature}
 use Rattle.chc_terms.specs.declared.term.Kind.{Kind}
 use Rattle.chc_terms.specs.declared.term.Kind.TheVariants as kind
 use Rattle.chc_terms.specs.declared.term.Term.{Term, Term-F, fold-Term}
-use Rattle.chc_print.specs.Symbols.{symbol_text}
+use Rattle.chc_sexpr.specs.Symbols.{symbol_text}
+use Rattle.chc_sexpr.specs.Writing.{spaced, joined}
 
 -- what a text takes its names from: datatypes, predicates and definitions by number, and the variables' prefix
 pub record Names : Type 0 where
@@ -57,16 +58,6 @@ ctor_name sig d c = name_of_ctor (slice_get (data_ctors (slice_get sig.datatypes
 
 abbrev pub field_name : Signature → ℕ → ℕ → ℕ → List ℕ
 field_name sig d c i = name_of_field (slice_get (ctor_fields (slice_get (data_ctors (slice_get sig.datatypes d)) c)) i)
-
--- the texts, with a space before each
-abbrev pub spaced : List (List ℕ) → List ℕ
-spaced [] = []
-spaced (t ∷ ts) = codes " " ++ t ++ spaced ts
-
--- the texts, with a space between each two
-abbrev pub joined : List (List ℕ) → List ℕ
-joined [] = []
-joined (t ∷ ts) = t ++ spaced ts
 
 -- the parenthesis before and the one after a head with arguments; a head alone has none
 abbrev pub opening : {X : Type 0} → List X → List ℕ

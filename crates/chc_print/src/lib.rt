@@ -5,13 +5,11 @@
 mod naming;
 mod prefix;
 mod script;
-mod symbol;
 mod text;
 
 pub use naming::Naming;
 pub use prefix::variable_prefix;
 pub use script::script_text;
-pub use symbol::write_symbol;
 pub use text::{write_binders, write_sort, write_term};
 
 #[cfg(test)]

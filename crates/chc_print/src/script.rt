@@ -2,13 +2,13 @@
 
 ghost use Rattle.std.specs.Prelude.{◌≡◌, ◌≢◌, ℕ, ◌+◌, ◌≤◌, ◌++◌, ◌↔◌, List, [], codes, map, length, IsTrue, IfOk, OnOk};
 ghost use Rattle.std.specs.List.{concat};
-ghost use Rattle.chc_print.specs.Texts.{spaced};
+ghost use Rattle.chc_sexpr.specs.Writing.{spaced};
 ghost use Rattle.chc_print.specs.Script.{atom_text, head_text, part_texts, tail_text, matrix_text, closed, clause_text, declaration_text, live_text, declarations_text, lines_of_script, IsScriptText};
 
 use crate::naming::Naming;
 use crate::prefix::variable_prefix;
-use crate::symbol::write_symbol;
 use crate::text::{write_arguments, write_opening, write_quantifier, write_sorts, write_terms};
+use chc_sexpr::write_symbol;
 use chc_sorts::{List, Name, NoMemory};
 use chc_source::ByteText;
 use chc_state::{Atom, Clause, PredDecl, State};

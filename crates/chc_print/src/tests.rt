@@ -3,7 +3,6 @@
 use crate::naming::Naming;
 use crate::prefix::variable_prefix;
 use crate::script::{script_text, write_clauses, write_declarations};
-use crate::symbol::write_symbol;
 use chc_sorts::{List, Name, NoMemory, Op, Sig, Sort};
 use chc_source::ByteText;
 use chc_state::{Atom, Clause, PredDecl, State};
@@ -151,33 +150,6 @@ fn the_script_without_clauses(rt: HostRuntime) {
     match script_text(alloc, &state, &List::new(alloc)) {
         Ok(text) => { assert!(rt; text.bytes() == b"(set-logic HORN)\n(check-sat)\n".as_slice()) }
         Err(_) => assert!(rt; false),
-    }
-}
-
-/// The name as a symbol.
-fn symbol(alloc: Global, name: &[u8]) -> Result<ByteText, NoMemory> {
-    let mut out = ByteText::new(alloc);
-    write_symbol(&mut out, name)?;
-    Ok(out)
-}
-
-#[test]
-fn names_between_bars_and_bare(rt: HostRuntime) {
-    let cases = [
-        (b"inv".as_slice(), b"inv".as_slice()),
-        (b"x!0".as_slice(), b"x!0".as_slice()),
-        (b"".as_slice(), b"||".as_slice()),
-        (b"0a".as_slice(), b"|0a|".as_slice()),
-        (b"a b".as_slice(), b"|a b|".as_slice()),
-        (b"forall".as_slice(), b"|forall|".as_slice()),
-        (b"exit".as_slice(), b"|exit|".as_slice()),
-        (b"get-unsat-core".as_slice(), b"|get-unsat-core|".as_slice()),
-    ];
-    for (name, wanted) in cases {
-        match symbol(rt.alloc(), name) {
-            Ok(text) => assert!(rt; text.bytes() == wanted),
-            Err(_) => assert!(rt; false),
-        }
     }
 }
 

@@ -1,11 +1,12 @@
 //! The texts of numbers, sorts, terms and atoms.
 
 ghost use Rattle.std.specs.Prelude.{◌≡◌, ◌+◌, ◌≤◌, ◌++◌, codes, decimal, map, length, OnOk};
-ghost use Rattle.chc_print.specs.Symbols.{symbol_text};
-ghost use Rattle.chc_print.specs.Texts.{ctor_name, number_text, truth_text, sort_text, op_text, kind_text, variable_text, spaced, joined, binder_text, binder_texts, quantifier_text, opening, closing, term_text, term_texts};
+ghost use Rattle.chc_sexpr.specs.Symbols.{symbol_text};
+ghost use Rattle.chc_sexpr.specs.Writing.{spaced, joined};
+ghost use Rattle.chc_print.specs.Texts.{ctor_name, number_text, truth_text, sort_text, op_text, kind_text, variable_text, binder_text, binder_texts, quantifier_text, opening, closing, term_text, term_texts};
 
 use crate::naming::{Naming, constructor_name, datatype_name, selector_name};
-use crate::symbol::write_symbol;
+use chc_sexpr::write_symbol;
 use chc_sorts::{NoMemory, Op, Sig, Sort};
 use chc_source::ByteText;
 use chc_terms::{Kind, Term};

@@ -10,7 +10,8 @@ use Rattle.chc_sorts.specs.Signature.{Signature}
 use Rattle.chc_sexpr.specs.Spelling.{is_quotable}
 use Rattle.chc_terms.specs.declared.term.Term.{Term}
 use Rattle.chc_terms.proofs.SameSort.{same_itself, same_sorts_itself}
-use Rattle.chc_terms.specs.Sorted.{Context, sorts_of, is_plain, is_declared_step, sort_depth, sort_depth_step, sort_fits}
+use Rattle.chc_sorts.specs.Sorts.{is_declared_step, sort_depth, sort_depth_step, sort_fits}
+use Rattle.chc_terms.specs.Sorted.{Context, sorts_of, is_plain}
 use Rattle.chc_state.specs.declared.clause.Atom.{Atom}
 use Rattle.chc_state.specs.declared.clause.Clause.{Clause}
 use Rattle.chc_state.specs.declared.clause.PredDecl.{PredDecl}

@@ -12,7 +12,8 @@ use Rattle.chc_sexpr.specs.declared.tree.Tree.{Tree}
 use Rattle.chc_sexpr.proofs.Folds.{TreeCases, tree_ind}
 use Rattle.chc_terms.specs.declared.term.Term.{Term}
 use Rattle.chc_terms.specs.declared.term.Term.TheVariants as term
-use Rattle.chc_terms.specs.Sorted.{Context, op_sort, sorts_of, same_sorts, when, is_plain}
+use Rattle.chc_sorts.specs.Sorts.{same_sorts}
+use Rattle.chc_terms.specs.Sorted.{Context, op_sort, sorts_of, when, is_plain}
 use Rattle.chc_terms.proofs.SameSort.{same_sorts_itself}
 use Rattle.chc_terms.proofs.SortLaws.{sort_of-Var, sort_of-Num, sort_of-App, is_plain-Var, is_plain-Num, is_plain-App}
 use Rattle.chc_script.specs.Clauses.{ints}

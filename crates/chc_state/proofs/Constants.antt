@@ -10,7 +10,7 @@ use Rattle.chc_values.specs.declared.value.Value.{Value}
 use Rattle.chc_values.specs.declared.value.Value.TheVariants as value
 use Rattle.chc_values.specs.declared.world.WorldEntry.{WorldEntry}
 use Rattle.chc_terms.specs.Has.{Has, silent}
-use Rattle.chc_terms.specs.Sorted.{sort_fits, sort_depth, sort_depth_step, is_declared_step}
+use Rattle.chc_sorts.specs.Sorts.{sort_fits, sort_depth, sort_depth_step, is_declared_step}
 use Rattle.chc_terms.proofs.HasLaws.{Has-Lit}
 use Rattle.chc_terms.proofs.SortLaws.{sort_of-Lit, sorts_fit-Lit}
 use Rattle.chc_state.specs.declared.clause.PredDecl.{PredDecl}

@@ -11,7 +11,8 @@ use Rattle.chc_values.specs.Values.{AreOf}
 use Rattle.chc_terms.specs.declared.fun_sort.FunSort.{FunSort}
 use Rattle.chc_terms.specs.declared.term.Term.{Term}
 use Rattle.chc_terms.specs.Has.{Meaning, Has, silent}
-use Rattle.chc_terms.specs.Sorted.{Context, sort_of, sort_fits, sorts_fit}
+use Rattle.chc_sorts.specs.Sorts.{sort_fits}
+use Rattle.chc_terms.specs.Sorted.{Context, sort_of, sorts_fit}
 use Rattle.chc_state.specs.declared.clause.Atom.{Atom}
 use Rattle.chc_state.specs.declared.clause.Clause.{Clause}
 use Rattle.chc_state.specs.declared.clause.PredDecl.{PredDecl}

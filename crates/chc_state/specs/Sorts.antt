@@ -5,7 +5,8 @@ use Rattle.chc_sorts.specs.declared.sort.Sort.{Sort}
 use Rattle.chc_sorts.specs.declared.sort.Sort.TheVariants as sort
 use Rattle.chc_sorts.specs.Signature.{Signature}
 use Rattle.chc_terms.specs.declared.term.Term.{Term}
-use Rattle.chc_terms.specs.Sorted.{Context, sort_of, sorts_of, same_sort, same_sorts, is_plain, sort_fits}
+use Rattle.chc_sorts.specs.Sorts.{same_sort, same_sorts, sort_fits}
+use Rattle.chc_terms.specs.Sorted.{Context, sort_of, sorts_of, is_plain}
 use Rattle.chc_state.specs.declared.clause.Atom.{Atom}
 use Rattle.chc_state.specs.declared.clause.Clause.{Clause}
 use Rattle.chc_state.specs.declared.clause.PredDecl.{PredDecl}

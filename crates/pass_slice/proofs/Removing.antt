@@ -5,7 +5,7 @@ use Rattle.std.specs.List.{filter, list_any, list_all}
 use Rattle.std.proofs.lemmas.Bool.{not_from_false, not-true, or_cases, or_left, and_parts, and_from, false≢true, eq-eqb}
 use Rattle.std.proofs.lemmas.List.Sums.{sum_by-cons}
 use Rattle.chc_sorts.specs.declared.sort.Sort.{Sort}
-use Rattle.chc_terms.specs.Sorted.{sort_fits}
+use Rattle.chc_sorts.specs.Sorts.{sort_fits}
 use Rattle.chc_state.specs.declared.clause.Atom.{Atom}
 use Rattle.chc_state.specs.declared.clause.Clause.{Clause}
 use Rattle.chc_state.specs.declared.clause.PredDecl.{PredDecl}

@@ -1,6 +1,6 @@
 //! Carrying a model answer back to the script.
 
-ghost use Rattle.std.specs.Prelude.{◌≡◌, ◌<◌, ◌^◌, length, IfOk, IfErr};
+ghost use Rattle.std.specs.Prelude.{◌≡◌, ◌<◌, ◌^◌, length, IfOk, IfErr, IsTrue, ◌↔◌};
 ghost use Rattle.chc_sorts.specs.Signature.{no_datatypes};
 ghost use Rattle.chc_sexpr.specs.Names.{AreNames};
 ghost use Rattle.chc_state.specs.Definitions.{Defines};
@@ -134,6 +134,20 @@ struct Followed {
     state: State,
 }
 
+/// Whether the digest is the one that is kept.
+fn is_kept(kept: &[u8; 32], found: &[u8; 32]) -> bool
+    ensures { IsTrue result ↔ (kept.now ≡ found.now) }
+{
+    kept == found
+}
+
+/// Whether the text is the target.
+fn is_target(text: &ByteText, target: &ByteText) -> bool
+    ensures { IsTrue result ↔ (text.now ≡ target.now) }
+{
+    text.bytes() == target.bytes()
+}
+
 /// Replays the trace on the script of these bytes, and gives the state that it leads to.
 fn follow(alloc: Global, bytes: &[u8], script: &Script, trace: Trace) -> Result<Followed, LiftErr>
     requires { script.now.state.sig ≡ no_datatypes }
@@ -142,11 +156,11 @@ fn follow(alloc: Global, bytes: &[u8], script: &Script, trace: Trace) -> Result<
     ensures refused { IfErr result (IsTraceRefusal bytes.now script.now trace) }
 {
     let found = digest(bytes);
-    if trace.source != found {
+    if !is_kept(&trace.source, &found) {
         return Err(LiftErr::Foreign(Foreign::Source(trace.source, found)));
     }
     let Printed { state, text } = reprint(alloc, script, trace.steps.as_slice())?;
-    if text.bytes() != trace.target.bytes() {
+    if !is_target(&text, &trace.target) {
         return Err(LiftErr::Foreign(Foreign::Target(trace.target, text)));
     }
     Ok(Followed {

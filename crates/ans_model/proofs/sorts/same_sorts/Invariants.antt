@@ -1,5 +1,5 @@
 use Rattle.std.proofs.Common.{◌≡◌, drop}
-use Rattle.chc_terms.specs.Sorted.{same_sorts}
+use Rattle.chc_sorts.specs.Sorts.{same_sorts}
 use Rattle.ans_model.proofs.sorts.same_sorts.Given as goal
 
 abbrev pub invariant-loop-i : goal.invariant-loop-i

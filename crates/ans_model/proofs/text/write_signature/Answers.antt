@@ -11,7 +11,7 @@ returns-clause-text c =
       c.in_ok-write_binders.ensures.text,
       c.as_slice.ensures,
       c.in_ok-extend-2.ensures.added,
-      c.in_ok-write_symbol.ensures,
+      c.in_ok-write_symbol.ensures.value,
       c.in_ok-extend.ensures.added,
       append_assoc,
     )

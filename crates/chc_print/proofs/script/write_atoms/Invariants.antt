@@ -1,5 +1,5 @@
 use Rattle.std.proofs.Common.{◌≡◌, ◌≤◌, ◌++◌, length, drop, map}
-use Rattle.chc_print.specs.Texts.{spaced}
+use Rattle.chc_sexpr.specs.Writing.{spaced}
 use Rattle.chc_print.specs.Script.{atom_text}
 use Rattle.chc_print.proofs.script.write_atoms.Given as goal
 

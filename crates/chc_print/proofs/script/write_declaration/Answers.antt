@@ -9,7 +9,7 @@ returns c =
       c.as_slice.ensures,
       c.signature.ensures,
       c.in_ok-extend-2.ensures.added,
-      c.in_ok-write_symbol.ensures,
+      c.in_ok-write_symbol.ensures.value,
       c.pred_name.ensures,
       c.in_ok-extend.ensures.added,
       append_assoc,

@@ -1,5 +1,6 @@
 use Rattle.std.proofs.Common.{◌≡◌, ◌≤◌, ◌++◌, length, drop}
-use Rattle.chc_print.specs.Texts.{spaced, term_texts}
+use Rattle.chc_sexpr.specs.Writing.{spaced}
+use Rattle.chc_print.specs.Texts.{term_texts}
 use Rattle.chc_print.proofs.text.+terms.Given as goal
 
 abbrev pub invariant-write_terms-loop-term : goal.invariant-write_terms-loop-term

@@ -1,5 +1,6 @@
 use Rattle.std.proofs.Common.{◌≡◌, ◌≤◌, ◌++◌, length, drop}
-use Rattle.chc_print.specs.Texts.{spaced, binder_texts}
+use Rattle.chc_sexpr.specs.Writing.{spaced}
+use Rattle.chc_print.specs.Texts.{binder_texts}
 use Rattle.chc_print.proofs.text.write_more_binders.Given as goal
 
 abbrev pub invariant-loop-sort : goal.invariant-loop-sort

@@ -1,5 +1,6 @@
 use Rattle.std.proofs.Common.{◌≡◌, ◌++◌, drop, map}
-use Rattle.chc_print.specs.Texts.{spaced, sort_text}
+use Rattle.chc_sexpr.specs.Writing.{spaced}
+use Rattle.chc_print.specs.Texts.{sort_text}
 use Rattle.chc_print.proofs.text.write_more_sorts.Given as goal
 
 abbrev pub invariant-loop-sort : goal.invariant-loop-sort
