@@ -1,6 +1,8 @@
 //! Groups that come into a signature, and groups that are refused.
 
-use crate::{Boxed, CtorSpec, DataSpec, FieldSpec, List, Name, NoMemory, Sig, SigErr, SortSpec};
+use crate::{
+    Boxed, CtorSpec, DataSpec, FieldSpec, Limit, List, Name, NoMemory, Sig, SigErr, SortSpec,
+};
 use std::alloc::Global;
 use std::mem;
 use std::test::Fail;
@@ -42,8 +44,33 @@ fn field_sort(alloc: Global, kind: u8, sort: u8) -> Result<SortSpec, NoMemory> {
     Ok(made)
 }
 
-/// The group of a text in parts of three letters: a field's kind, name and sort, before its constructor `cK.`, which
-/// stands before its datatype `dT.`.
+/// Adds a field of the sort.
+fn add_field(
+    alloc: Global,
+    fields: &mut List<FieldSpec>,
+    name: u8,
+    sort: SortSpec,
+) -> Result<(), NoMemory> {
+    let name = letter(alloc, name)?;
+    fields.push(FieldSpec { name, sort })?;
+    Ok(())
+}
+
+/// Adds one field more than a constructor may have, named by the bytes from the first name on.
+fn add_many_fields(
+    alloc: Global,
+    fields: &mut List<FieldSpec>,
+    first: u8,
+    sort: u8,
+) -> Result<(), NoMemory> {
+    for name in first..=first.saturating_add(64) {
+        add_field(alloc, fields, name, named(alloc, sort)?)?;
+    }
+    Ok(())
+}
+
+/// The group of a text in parts of three letters: a field's kind, name and sort (with kind `m` sixty-five fields), before
+/// its constructor `cK.`, which stands before its datatype `dT.`.
 fn group_of(alloc: Global, text: &[u8]) -> Result<List<DataSpec>, NoMemory> {
     let mut fields = List::new(alloc);
     let mut ctors = List::new(alloc);
@@ -60,10 +87,10 @@ fn group_of(alloc: Global, text: &[u8]) -> Result<List<DataSpec>, NoMemory> {
                 let name = letter(alloc, *name)?;
                 group.push(DataSpec { name, ctors })?;
             }
+            [b'm', first, sort] => add_many_fields(alloc, &mut fields, *first, *sort)?,
             [kind, name, sort] => {
                 let sort = field_sort(alloc, *kind, *sort)?;
-                let name = letter(alloc, *name)?;
-                fields.push(FieldSpec { name, sort })?;
+                add_field(alloc, &mut fields, *name, sort)?;
             }
             _ => {}
         }
@@ -79,6 +106,7 @@ fn told(answer: Result<(), SigErr>) -> (u8, u8) {
         Err(SigErr::UnknownSort(name)) => (b'u', first(&name)),
         Err(SigErr::ArrayIndex) => (b'x', b'.'),
         Err(SigErr::SortTooDeep) => (b'p', b'.'),
+        Err(SigErr::TooMany(Limit::L14)) => (b'm', b'4'),
         Err(SigErr::TooMany(_)) => (b'm', b'.'),
         Err(SigErr::NotWellFounded(name)) => (b'w', first(&name)),
         Err(SigErr::NoMemory) => (b'n', b'.'),
@@ -124,6 +152,7 @@ fn groups_are_told_apart(rt: HostRuntime) -> Result<(), Fail> {
         b"x1if2Zc3.dA.uZ",
         b"p1ix2ic3.dA.x.",
         b"p1Ac3.dA.p.",
+        b"m\x80AcK.dA.m4",
     ];
     for row in rows {
         assert!(rt; is_told(alloc, &mut sig, &preds, row)?);
