@@ -6,27 +6,39 @@ ghost use Rattle.chc_elab.specs.Building.{head_takes, is_as_many, parameters, ta
 
 use crate::head::Head;
 use crate::symbols::Symbol;
-use chc_sorts::{ReadOp, Sig};
+use chc_sorts::{ReadOp, Sig, operator_rows};
+
+macro_rules! counted {
+    (one $count:expr) => {
+        $count == 1
+    };
+    (some $count:expr) => {
+        $count > 0
+    };
+    (several $count:expr) => {
+        $count > 1
+    };
+    (two $count:expr) => {
+        $count == 2
+    };
+    (three $count:expr) => {
+        $count == 3
+    };
+}
+
+macro_rules! counts {
+    ([$op:expr, $given:expr] $($text:literal $read:ident $count:ident $sorts:ident $form:tt),*) => {
+        match $op {
+            $(ReadOp::$read => counted!($count $given),)*
+        }
+    };
+}
 
 /// Whether an operator takes so many arguments.
 fn takes(op: ReadOp, count: usize) -> bool
     ensures { result ≡ takes op count }
 {
-    match op {
-        ReadOp::Not | ReadOp::Abs => count == 1,
-        ReadOp::And | ReadOp::Or | ReadOp::Sub | ReadOp::Add | ReadOp::Mul => count > 0,
-        ReadOp::Implies
-        | ReadOp::Xor
-        | ReadOp::Eq
-        | ReadOp::Distinct
-        | ReadOp::Div
-        | ReadOp::Le
-        | ReadOp::Lt
-        | ReadOp::Ge
-        | ReadOp::Gt => count > 1,
-        ReadOp::Mod | ReadOp::Select => count == 2,
-        ReadOp::Ite | ReadOp::Store => count == 3,
-    }
+    operator_rows!([counts] op, count)
 }
 
 /// Whether the constructor is there and has so many fields.

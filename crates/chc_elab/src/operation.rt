@@ -11,7 +11,7 @@ use crate::build_err::BuildErr;
 use crate::built::Built;
 use crate::joint::Joint;
 use crate::pile::{Pile, join, negated, number, pair};
-use chc_sorts::{List, Op, ReadOp};
+use chc_sorts::{List, Op, ReadOp, operator_rows};
 use std::alloc::Global;
 
 /// The terms together.
@@ -165,31 +165,51 @@ pub fn divisible(alloc: Global, n: i128, mut terms: List<Built>) -> Result<Built
     pair(alloc, Op::Eq, rest, number(0))
 }
 
+macro_rules! built {
+    ((applied $op:ident) $alloc:expr, $terms:expr) => {
+        applied($alloc, Op::$op, $terms)
+    };
+    ((implication) $alloc:expr, $terms:expr) => {
+        implication($alloc, $terms)
+    };
+    ((sole $op:ident) $alloc:expr, $terms:expr) => {
+        sole($alloc, Op::$op, $terms)
+    };
+    ((differing) $alloc:expr, $terms:expr) => {
+        joined_left($alloc, &Joint::Differ, $terms)
+    };
+    ((left $op:ident) $alloc:expr, $terms:expr) => {
+        joined_left($alloc, &Joint::Pair(Op::$op), $terms)
+    };
+    ((chained $op:ident) $alloc:expr, $terms:expr) => {
+        chained($alloc, &Joint::Pair(Op::$op), $terms.as_slice())
+    };
+    ((turned $op:ident) $alloc:expr, $terms:expr) => {
+        chained($alloc, &Joint::Turned(Op::$op), $terms.as_slice())
+    };
+    ((distinct) $alloc:expr, $terms:expr) => {
+        distinct($alloc, $terms.as_slice())
+    };
+    ((difference) $alloc:expr, $terms:expr) => {
+        difference($alloc, $terms)
+    };
+    ((absolute) $alloc:expr, $terms:expr) => {
+        absolute($alloc, $terms)
+    };
+}
+
+macro_rules! builds {
+    ([$alloc:expr, $op:expr, $terms:expr] $($text:literal $read:ident $count:ident $sorts:ident $form:tt),*) => {
+        match $op {
+            $(ReadOp::$read => built!($form $alloc, $terms),)*
+        }
+    };
+}
+
 /// The term that an operator stands for on these, of which there are as many as it takes.
 pub fn operation(alloc: Global, op: ReadOp, terms: List<Built>) -> Result<Built, BuildErr>
     requires { IsTrue (takes op (length terms)) }
     ensures { Builds result (operation op terms) }
 {
-    match op {
-        ReadOp::Not => applied(alloc, Op::Not, terms),
-        ReadOp::Implies => implication(alloc, terms),
-        ReadOp::And => sole(alloc, Op::And, terms),
-        ReadOp::Or => sole(alloc, Op::Or, terms),
-        ReadOp::Xor => joined_left(alloc, &Joint::Differ, terms),
-        ReadOp::Eq => chained(alloc, &Joint::Pair(Op::Eq), terms.as_slice()),
-        ReadOp::Distinct => distinct(alloc, terms.as_slice()),
-        ReadOp::Ite => applied(alloc, Op::Ite, terms),
-        ReadOp::Sub => difference(alloc, terms),
-        ReadOp::Add => joined_left(alloc, &Joint::Pair(Op::Add), terms),
-        ReadOp::Mul => joined_left(alloc, &Joint::Pair(Op::Mul), terms),
-        ReadOp::Div => joined_left(alloc, &Joint::Pair(Op::Div), terms),
-        ReadOp::Mod => applied(alloc, Op::Mod, terms),
-        ReadOp::Abs => absolute(alloc, terms),
-        ReadOp::Le => chained(alloc, &Joint::Pair(Op::Le), terms.as_slice()),
-        ReadOp::Lt => chained(alloc, &Joint::Pair(Op::Lt), terms.as_slice()),
-        ReadOp::Ge => chained(alloc, &Joint::Turned(Op::Le), terms.as_slice()),
-        ReadOp::Gt => chained(alloc, &Joint::Turned(Op::Lt), terms.as_slice()),
-        ReadOp::Select => applied(alloc, Op::Select, terms),
-        ReadOp::Store => applied(alloc, Op::Store, terms),
-    }
+    operator_rows!([builds] alloc, op, terms)
 }

@@ -11,7 +11,7 @@ ghost use Rattle.chc_elab.specs.Building.{constant_sort, declared_sort, head_sor
 
 use crate::head::Head;
 use crate::symbols::Symbol;
-use chc_sorts::{Field, List, NoMemory, ReadOp, Sig, Sort, same_sort, same_sorts};
+use chc_sorts::{Field, List, NoMemory, ReadOp, Sig, Sort, operator_rows, same_sort, same_sorts};
 use std::alloc::Global;
 
 /// Whether all are the sort.
@@ -100,25 +100,43 @@ fn write_sort(alloc: Global, sorts: &[Sort]) -> Result<Option<Sort>, NoMemory>
     }
 }
 
+macro_rules! sorted {
+    (truths $alloc:expr, $sorts:expr) => {
+        Ok(on_all(Sort::Bool, Sort::Bool, $sorts))
+    };
+    (equal $alloc:expr, $sorts:expr) => {
+        Ok(on_equal($sorts))
+    };
+    (choice $alloc:expr, $sorts:expr) => {
+        choice_sort($alloc, $sorts)
+    };
+    (numbers $alloc:expr, $sorts:expr) => {
+        Ok(on_all(Sort::Int, Sort::Int, $sorts))
+    };
+    (compared $alloc:expr, $sorts:expr) => {
+        Ok(on_all(Sort::Int, Sort::Bool, $sorts))
+    };
+    (read $alloc:expr, $sorts:expr) => {
+        read_sort($alloc, $sorts)
+    };
+    (written $alloc:expr, $sorts:expr) => {
+        write_sort($alloc, $sorts)
+    };
+}
+
+macro_rules! sorts_read {
+    ([$alloc:expr, $op:expr, $given:expr] $($text:literal $read:ident $count:ident $sorts:ident $form:tt),*) => {
+        match $op {
+            $(ReadOp::$read => sorted!($sorts $alloc, $given),)*
+        }
+    };
+}
+
 /// The sort of an operator on arguments of these sorts.
 fn sort_read_as(alloc: Global, op: ReadOp, sorts: &[Sort]) -> Result<Option<Sort>, NoMemory>
     ensures { Gives result (sort_read_as op sorts.now) }
 {
-    match op {
-        ReadOp::Not | ReadOp::Implies | ReadOp::And | ReadOp::Or | ReadOp::Xor => {
-            Ok(on_all(Sort::Bool, Sort::Bool, sorts))
-        }
-        ReadOp::Eq | ReadOp::Distinct => Ok(on_equal(sorts)),
-        ReadOp::Ite => choice_sort(alloc, sorts),
-        ReadOp::Sub | ReadOp::Add | ReadOp::Mul | ReadOp::Div | ReadOp::Mod | ReadOp::Abs => {
-            Ok(on_all(Sort::Int, Sort::Int, sorts))
-        }
-        ReadOp::Le | ReadOp::Lt | ReadOp::Ge | ReadOp::Gt => {
-            Ok(on_all(Sort::Int, Sort::Bool, sorts))
-        }
-        ReadOp::Select => read_sort(alloc, sorts),
-        ReadOp::Store => write_sort(alloc, sorts),
-    }
+    operator_rows!([sorts_read] alloc, op, sorts)
 }
 
 /// Whether the sorts are those of the fields.

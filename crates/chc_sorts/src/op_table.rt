@@ -9,12 +9,14 @@ use crate::op::Op;
 mod tests;
 
 /// Hands the table of the operators that are read to another macro: `operator_rows!([take] given ..)` calls
-/// `take!([given ..] rows)`. A row is a name and its variant of `ReadOp`. A `match` over either column is written
-/// once, and a new row is an arm of each:
+/// `take!([given ..] rows)`. A row is a name, its variant of `ReadOp`, how many arguments it takes (`one`, `some` for one
+/// or more, `several` for two or more, `two`, `three`), of which sorts they are (`truths`, `equal`, `choice`, `numbers`,
+/// `compared`, `read`, `written`), and how the term is built on them (`(applied Not)`, `(left Add)`, `(chained Le)`, ..).
+/// A `match` over the rows is written once, and a new row is an arm of each:
 ///
 /// ```text
 /// macro_rules! has_name {
-///     ([$name:expr] $($text:literal $read:ident),*) => {
+///     ([$name:expr] $($text:literal $read:ident $count:ident $sorts:ident $form:tt),*) => {
 ///         matches!($name, $($text)|*)
 ///     };
 /// }
@@ -28,36 +30,38 @@ macro_rules! operator_rows {
     ([$($take:tt)*] $($given:tt)*) => {
         $($take)*! {
             [$($given)*]
-            b"not" Not,
-            b"=>" Implies,
-            b"and" And,
-            b"or" Or,
-            b"xor" Xor,
-            b"=" Eq,
-            b"distinct" Distinct,
-            b"ite" Ite,
-            b"-" Sub,
-            b"+" Add,
-            b"*" Mul,
-            b"div" Div,
-            b"mod" Mod,
-            b"abs" Abs,
-            b"<=" Le,
-            b"<" Lt,
-            b">=" Ge,
-            b">" Gt,
-            b"select" Select,
-            b"store" Store
+            b"not" Not one truths (applied Not),
+            b"=>" Implies several truths (implication),
+            b"and" And some truths (sole And),
+            b"or" Or some truths (sole Or),
+            b"xor" Xor several truths (differing),
+            b"=" Eq several equal (chained Eq),
+            b"distinct" Distinct several equal (distinct),
+            b"ite" Ite three choice (applied Ite),
+            b"-" Sub some numbers (difference),
+            b"+" Add some numbers (left Add),
+            b"*" Mul some numbers (left Mul),
+            b"div" Div several numbers (left Div),
+            b"mod" Mod two numbers (applied Mod),
+            b"abs" Abs one numbers (absolute),
+            b"<=" Le several compared (chained Le),
+            b"<" Lt several compared (chained Lt),
+            b">=" Ge several compared (turned Le),
+            b">" Gt several compared (turned Lt),
+            b"select" Select two read (applied Select),
+            b"store" Store three written (applied Store)
         }
     };
 }
 
 /// Hands the table of the operators of terms that are written by a name to another macro, as `operator_rows` does.
-/// A row is a variant of `Op` and its name:
+/// A row is a variant of `Op`, its name, and what it demands of its arguments: a truth value (`negated`), two or more of
+/// them (`truths`), two of one sort (`equal`), a truth value and two of one sort (`choice`), two numbers (`numbers`, or
+/// `compared` where it gives a truth value), an array and an index (`read`), or these and an element (`written`):
 ///
 /// ```text
 /// macro_rules! is_named {
-///     ([$op:expr] $($kind:ident $text:literal),*) => {
+///     ([$op:expr] $($kind:ident $text:literal $demand:ident),*) => {
 ///         matches!($op, $(Op::$kind)|*)
 ///     };
 /// }
@@ -71,32 +75,32 @@ macro_rules! written_operators {
     ([$($take:tt)*] $($given:tt)*) => {
         $($take)*! {
             [$($given)*]
-            Not b"not",
-            And b"and",
-            Or b"or",
-            Eq b"=",
-            Ite b"ite",
-            Add b"+",
-            Sub b"-",
-            Mul b"*",
-            Div b"div",
-            Mod b"mod",
-            Le b"<=",
-            Lt b"<",
-            Select b"select",
-            Store b"store"
+            Not b"not" negated,
+            And b"and" truths,
+            Or b"or" truths,
+            Eq b"=" equal,
+            Ite b"ite" choice,
+            Add b"+" numbers,
+            Sub b"-" numbers,
+            Mul b"*" numbers,
+            Div b"div" numbers,
+            Mod b"mod" numbers,
+            Le b"<=" compared,
+            Lt b"<" compared,
+            Select b"select" read,
+            Store b"store" written
         }
     };
 }
 
 macro_rules! rows {
-    ([] $($text:literal $read:ident),*) => {
+    ([] $($text:literal $read:ident $count:ident $sorts:ident $form:tt),*) => {
         [$(OpRow { name: $text, op: ReadOp::$read }),*]
     };
 }
 
 macro_rules! read_as {
-    ([$name:expr] $($text:literal $read:ident),*) => {
+    ([$name:expr] $($text:literal $read:ident $count:ident $sorts:ident $form:tt),*) => {
         match $name {
             $($text => Some(ReadOp::$read),)*
             _ => None,
@@ -105,7 +109,7 @@ macro_rules! read_as {
 }
 
 macro_rules! written_as {
-    ([$op:expr] $($kind:ident $text:literal),*) => {
+    ([$op:expr] $($kind:ident $text:literal $demand:ident),*) => {
         match $op {
             $(Op::$kind => Some($text),)*
             Op::Const(_) | Op::Make(_, _) | Op::Get(_, _, _) | Op::Is(_, _) => None,

@@ -15,7 +15,9 @@ ghost use Rattle.chc_terms.specs.Demands.{Demands, demanded_count, demanded_sort
 use crate::context::SortErr;
 use crate::declared::is_declared;
 use crate::fun_sort::FunSort;
-use chc_sorts::{Boxed, Ctor, Field, List, NoMemory, Op, Sig, Sort, same_sort, same_sorts};
+use chc_sorts::{
+    Boxed, Ctor, Field, List, NoMemory, Op, Sig, Sort, same_sort, same_sorts, written_operators,
+};
 use std::alloc::Global;
 
 /// What an operator demands of its arguments, and which sort it then gives.
@@ -130,25 +132,51 @@ fn of_is(alloc: Global, sig: &Sig, d: u32, c: u32) -> Result<Demand, SortErr>
     }
 }
 
+macro_rules! demanded {
+    (negated $alloc:expr) => {
+        Ok(one($alloc, Sort::Bool, Sort::Bool)?)
+    };
+    (truths $alloc:expr) => {
+        Ok(Demand::Truths)
+    };
+    (equal $alloc:expr) => {
+        Ok(Demand::Equation)
+    };
+    (choice $alloc:expr) => {
+        Ok(Demand::Choice)
+    };
+    (numbers $alloc:expr) => {
+        Ok(two_numbers($alloc, Sort::Int)?)
+    };
+    (compared $alloc:expr) => {
+        Ok(two_numbers($alloc, Sort::Bool)?)
+    };
+    (read $alloc:expr) => {
+        Ok(Demand::Read)
+    };
+    (written $alloc:expr) => {
+        Ok(Demand::Write)
+    };
+}
+
+macro_rules! demands {
+    ([$alloc:expr, $sig:expr, $op:expr] $($kind:ident $text:literal $demand:ident),*) => {
+        match $op {
+            $(Op::$kind => demanded!($demand $alloc),)*
+            Op::Const(element) => of_const($alloc, $sig, element),
+            Op::Make(d, c) => of_make($alloc, $sig, *d, *c),
+            Op::Get(d, c, i) => of_get($alloc, $sig, *d, *c, *i),
+            Op::Is(d, c) => of_is($alloc, $sig, *d, *c),
+        }
+    };
+}
+
 /// What the operator demands. Errors: `Unbound` where it names a datatype, constructor or field that isn't there;
 /// `NoMemory`.
 pub fn demand_of(alloc: Global, sig: &Sig, op: &Op) -> Result<Demand, SortErr>
     ensures { Demands sig.now op.now result }
 {
-    match op {
-        Op::Not => Ok(one(alloc, Sort::Bool, Sort::Bool)?),
-        Op::And | Op::Or => Ok(Demand::Truths),
-        Op::Eq => Ok(Demand::Equation),
-        Op::Ite => Ok(Demand::Choice),
-        Op::Add | Op::Sub | Op::Mul | Op::Div | Op::Mod => Ok(two_numbers(alloc, Sort::Int)?),
-        Op::Le | Op::Lt => Ok(two_numbers(alloc, Sort::Bool)?),
-        Op::Select => Ok(Demand::Read),
-        Op::Store => Ok(Demand::Write),
-        Op::Const(element) => of_const(alloc, sig, element),
-        Op::Make(d, c) => of_make(alloc, sig, *d, *c),
-        Op::Get(d, c, i) => of_get(alloc, sig, *d, *c, *i),
-        Op::Is(d, c) => of_is(alloc, sig, *d, *c),
-    }
+    written_operators!([demands] alloc, sig, op)
 }
 
 /// The sort where the test holds, and otherwise `WrongSort`.
