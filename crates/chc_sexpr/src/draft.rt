@@ -26,6 +26,28 @@ fn without_room(trees: Trees) -> Trees
     List::from_vec(items)
 }
 
+/// Adds a tree at the end. The first two get no room to spare, since most groups are short: the places that a short list
+/// has too many are lost between the lists behind it.
+fn add_tree(alloc: Global, trees: &mut Trees, tree: Tree) -> Result<(), NoMemory>
+    ensures { OnOk result (trees.new ≡ trees.old ++ tree ∷ []) }
+{
+    if trees.len() < 2 {
+        make_room(alloc, trees)?;
+    }
+    trees.push(tree)?;
+    Ok(())
+}
+
+/// Makes room for one tree more.
+fn make_room(alloc: Global, trees: &mut Trees) -> Result<(), NoMemory>
+    ensures { OnOk result (trees.new ≡ trees.old) }
+{
+    let mut items = mem::replace(trees, List::new(alloc)).into_vec();
+    items.reserve_exact(1)?;
+    *trees = List::from_vec(items);
+    Ok(())
+}
+
 /// The groups that are open, outermost first, and the trees of the innermost so far.
 #[derive(Drop)]
 pub struct Draft {
@@ -56,23 +78,23 @@ impl Draft {
     }
 
     /// Reads a `)`.
-    pub fn close(&mut self) -> Result<(), NoMemory>
+    pub fn close(&mut self, alloc: Global) -> Result<(), NoMemory>
         requires { 0 < length self.old.groups }
         ensures { OnOk result (Closes self.old self.new) }
     {
         if let Some(OpenGroup { place, before }) = self.groups.pop() {
             let inner = mem::replace(&mut self.trees, before);
-            self.trees.push(Tree::Group(place, without_room(inner)))?;
+            let group = Tree::Group(place, without_room(inner));
+            add_tree(alloc, &mut self.trees, group)?;
         }
         Ok(())
     }
 
     /// Reads a tree that is a token.
-    pub fn add(&mut self, tree: Tree) -> Result<(), NoMemory>
+    pub fn add(&mut self, alloc: Global, tree: Tree) -> Result<(), NoMemory>
         ensures groups { OnOk result (self.new.groups ≡ self.old.groups) }
         ensures trees { OnOk result (self.new.trees ≡ self.old.trees ++ tree ∷ []) }
     {
-        self.trees.push(tree)?;
-        Ok(())
+        add_tree(alloc, &mut self.trees, tree)
     }
 }

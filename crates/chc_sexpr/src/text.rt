@@ -38,7 +38,7 @@ fn read_close(alloc: Global, draft: &mut Draft, place: u64, rest: &[u8]) -> Resu
     if draft.groups.len() == 0 {
         return Err(fault(alloc, place, Fault::StrayParen));
     }
-    draft.close()?;
+    draft.close(alloc)?;
     Ok(1)
 }
 
@@ -50,7 +50,7 @@ fn read_tree(alloc: Global, draft: &mut Draft, place: u64, rest: &[u8]) -> Resul
     ensures { StepsOn draft.old draft.new place rest.now result }
 {
     let Token { tree, length } = read_token(alloc, place, rest)?;
-    draft.add(tree)?;
+    draft.add(alloc, tree)?;
     Ok(length)
 }
 
