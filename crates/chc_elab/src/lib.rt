@@ -24,6 +24,8 @@ mod scope;
 mod sort_tree;
 mod sorting;
 mod symbols;
+#[cfg(test)]
+mod tests;
 mod typed;
 
 pub use census::trees_in;
