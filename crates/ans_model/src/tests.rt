@@ -60,16 +60,31 @@ fn preds(alloc: Global) -> Result<List<PredDecl>, NoMemory>
     Ok(preds)
 }
 
-/// What an answer says of these predicates; `None` where memory was refused.
-fn reading(alloc: Global, text: &[u8]) -> Option<Option<Defs>> {
-    let preds = preds(alloc).ok()?;
-    let names = names(alloc).ok()?;
+/// What an answer says of predicates of these names; `None` where memory was refused.
+fn reading_of(
+    alloc: Global,
+    text: &[u8],
+    preds: List<PredDecl>,
+    names: &List<Name>,
+) -> Option<Option<Defs>>
+    requires preds { length preds ≡ 3 }
+    requires names { length names.now ≡ 3 }
+    requires apart { AreNames names.now }
+    requires fit { IsTrue (positions_fit no_datatypes preds) }
+{
     let clauses = List::new(alloc);
     if over(&preds, &clauses).is_some() || text.len() >= 4294967296 {
         return None;
     }
     let state = State::of_parts(Sig::new(alloc), preds, clauses);
-    read_defs(alloc, text, &state, &names).ok()
+    read_defs(alloc, text, &state, names).ok()
+}
+
+/// What an answer says of the predicates; `None` where memory was refused.
+fn reading(alloc: Global, text: &[u8]) -> Option<Option<Defs>> {
+    let preds = preds(alloc).ok()?;
+    let names = names(alloc).ok()?;
+    reading_of(alloc, text, preds, &names)
 }
 
 /// Whether a text is read, or `None` where memory was refused.
