@@ -25,3 +25,10 @@ pub mod OnlyOne
 pub mod SymbolRows
 pub mod Room
 pub mod TreeCounts
+pub mod FormSorts
+pub mod SpelledSorts
+pub mod LoneSymbols
+pub mod SortedReads
+pub mod Asked
+pub mod AskedReads
+pub mod ReadsWell

@@ -11,3 +11,4 @@ pub mod Reads
 pub mod Rooms
 pub mod Settings
 pub mod Stands
+pub mod WellRead

@@ -15,6 +15,7 @@ use Rattle.chc_terms.specs.declared.term.Term.TheVariants as term
 use Rattle.chc_terms.specs.Counts.{size}
 use Rattle.chc_terms.specs.Sorted.{quantifier_sort}
 use Rattle.chc_elab.specs.declared.typed.Typed.{Typed}
+use Rattle.chc_elab.specs.declared.sorted_term.SortedTerm.{SortedTerm}
 use Rattle.chc_elab.specs.declared.head.Head.{Head}
 use Rattle.chc_elab.specs.declared.head.Head.TheVariants as head
 use Rattle.chc_elab.specs.declared.form.Form.{Form}
@@ -164,6 +165,10 @@ module _ (setting : Setting) where
   abbrev pub read_at : Tree → Site → Reading Typed
   read_at tree site = (roles_of tree).whole site
 
-  -- the term of a tree under variables of these names and sorts, or its first fault
+  -- the term of a tree with its sort, under variables of these names and sorts, or its first fault
+  abbrev pub elaborated_with_sort : List (List ℕ) → List Sort → Tree → Reading SortedTerm
+  elaborated_with_sort names sorts tree = read_at tree (outer_site names sorts) >>> (λ t. Ok (record { term = t.term; sort = t.sort }))
+
+  -- the term alone, or the first fault
   abbrev pub elaborated : List (List ℕ) → List Sort → Tree → Reading Term
-  elaborated names sorts tree = read_at tree (outer_site names sorts) >>> (λ t. Ok t.term)
+  elaborated names sorts tree = elaborated_with_sort names sorts tree >>> (λ t. Ok t.term)

@@ -3,7 +3,7 @@
 ghost use Rattle.std.specs.Prelude.{◌≡◌, ◌+◌, ◌<◌, ◌^◌, IfOk, length};
 ghost use Rattle.chc_sexpr.specs.Counts.{count};
 ghost use Rattle.chc_elab.specs.Binders.{variables_from};
-ghost use Rattle.chc_elab.specs.Reads.{elaborated};
+ghost use Rattle.chc_elab.specs.Reads.{elaborated, elaborated_with_sort};
 ghost use Rattle.chc_elab.specs.Settings.{flat, scope_setting};
 ghost use Rattle.chc_elab.specs.Sites.{Tells};
 
@@ -12,6 +12,8 @@ use crate::frame::Frame;
 use crate::layers::Layers;
 use crate::reading::read_term;
 use crate::scope::{Declared, Scope};
+use crate::sorted_term::SortedTerm;
+use crate::typed::Typed;
 use chc_sexpr::{TextErr, Tree};
 use chc_sorts::{List, Name, NoMemory, Sort};
 use chc_terms::Term;
@@ -44,12 +46,25 @@ pub fn elab(alloc: Global, tree: &Tree, scope: &Scope<'_>) -> Result<Term, TextE
     requires room { length scope.now.names.now + count tree.now < 2 ^ 32 }
     ensures { Tells result (elaborated (scope_setting scope.now) scope.now.names.now scope.now.sorts.now tree.now) }
 {
+    let SortedTerm { term, .. } = elab_sorted(alloc, tree, scope)?;
+    Ok(term)
+}
+
+/// The term for which a tree stands in a scope, with its sort. Conditions and errors are those of `elab`.
+pub fn elab_sorted(alloc: Global, tree: &Tree, scope: &Scope<'_>) -> Result<SortedTerm, TextErr>
+    requires even { length scope.now.names.now ≡ length scope.now.sorts.now }
+    requires room { length scope.now.names.now + count tree.now < 2 ^ 32 }
+    ensures { Tells result (elaborated_with_sort (scope_setting scope.now) scope.now.names.now scope.now.sorts.now tree.now) }
+{
     let declared = Declared {
         sig: scope.sig,
         symbols: scope.symbols,
     };
     let mut frames = outer_frames(alloc, scope.names.as_slice(), scope.sorts.as_slice())?;
     let count = scope.sorts.len() as u32;
-    let term = read_term(alloc, &declared, &mut frames, count, tree)?;
-    Ok(term.term.into_term())
+    let Typed { term, sort } = read_term(alloc, &declared, &mut frames, count, tree)?;
+    Ok(SortedTerm {
+        term: term.into_term(),
+        sort,
+    })
 }

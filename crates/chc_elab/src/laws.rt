@@ -1,6 +1,7 @@
 //! What the terms that are read have to do with the trees that stand for them.
 
 ghost use Rattle.chc_elab.specs.Stands.{ReadIsSaid, ReadStands, ReadWhereStands, StandsForOne, StandsIsRead};
+ghost use Rattle.chc_elab.specs.WellRead.{ReadsWell};
 
 /// A tree that stands for a term, all within the limits, is read as that term.
 pub fn what_stands_is_read()
@@ -25,4 +26,11 @@ pub fn what_stands_is_one()
 /// `elab` answers a term exactly where the tree stands for it, all within the limits.
 pub fn what_is_answered_stands()
     ensures { ReadWhereStands }
+{}
+
+/// What `elab_sorted` answers is well sorted, with the sort that it gives, and within the limits. Every sort that it
+/// writes out fits the signature, it calls nothing where no name stands for a definition, and its numbers are in range
+/// where the tree's numerals are.
+pub fn what_is_read_is_well_sorted()
+    ensures { ReadsWell }
 {}

@@ -22,6 +22,7 @@ mod place;
 mod reading;
 mod scope;
 mod sort_tree;
+mod sorted_term;
 mod sorting;
 mod symbols;
 #[cfg(test)]
@@ -29,11 +30,12 @@ mod tests;
 mod typed;
 
 pub use census::trees_in;
-pub use elaboration::elab;
+pub use elaboration::{elab, elab_sorted};
 pub use laws::{
-    what_is_answered_stands, what_is_read_is_said, what_is_read_stands, what_stands_is_one,
-    what_stands_is_read,
+    what_is_answered_stands, what_is_read_is_said, what_is_read_is_well_sorted,
+    what_is_read_stands, what_stands_is_one, what_stands_is_read,
 };
 pub use scope::Scope;
 pub use sort_tree::sort_spec;
+pub use sorted_term::SortedTerm;
 pub use symbols::{Symbol, Symbols};

@@ -4,7 +4,7 @@ use Rattle.chc_sexpr.specs.Counts.{count}
 use Rattle.chc_elab.specs.Binders.{variables_from}
 use Rattle.chc_elab.specs.Settings.{flat}
 use Rattle.chc_elab.proofs.Room.{room_outer}
-use Rattle.chc_elab.proofs.elaboration.elab.Goals as goal
+use Rattle.chc_elab.proofs.elaboration.elab_sorted.Goals as goal
 
 pub read_term-requires : goal.read_term-requires
 read_term-requires c =
