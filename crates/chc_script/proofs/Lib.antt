@@ -7,3 +7,13 @@ pub mod Numbers
 pub mod Readings
 pub mod Tables
 pub mod TermLaws
+pub mod Collected
+pub mod HornTests
+pub mod MarkLaws
+pub mod PrefixLaws
+pub mod HornSteps
+pub mod Stripped
+pub mod SortedParts
+pub mod HornKept
+pub mod FrontLaws
+pub mod TermSizes

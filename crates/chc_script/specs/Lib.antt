@@ -4,3 +4,7 @@ pub mod Scripts
 pub mod Terms
 pub mod Assertions
 pub mod Made
+pub mod Horn
+pub mod HornLaws
+pub mod Marks
+pub mod Fronts

@@ -102,7 +102,11 @@ fn show_atom(alloc: Global, out: &mut ByteText, atom: &Atom) -> Result<(), NoMem
     out.push(b')')
 }
 
-fn show_clause(alloc: Global, out: &mut ByteText, clause: &Clause) -> Result<(), NoMemory> {
+pub(crate) fn show_clause(
+    alloc: Global,
+    out: &mut ByteText,
+    clause: &Clause,
+) -> Result<(), NoMemory> {
     let vars = clause.vars.len();
     let weight = clause.weight;
     out.extend(format!(in alloc; "{vars} {weight}:")?.as_bytes())?;
