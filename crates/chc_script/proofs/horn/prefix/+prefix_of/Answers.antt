@@ -16,9 +16,9 @@ returns-in-len1 t c =
     let one : args ≡ arg ∷ [] = only_item args arg (omega (arith, ap length c.as_slice.ensures)) at in
     let negated : negates c.in-App.op c.args.side ≡ true = grind (arith, common_steps) in
     let whole : prefix_of arg side.Assumed c.args.vars ≡ prefix_of c.args.term.now c.args.side c.args.vars =
-        prefix-one c.in-App.op arg c.args.side c.args.vars negated
-        ∙ ap (λ (ts : List Term). prefix_of (App c.in-App.op ts) c.args.side c.args.vars) (sym one)
-        ∙ ap (λ (term : Term). prefix_of term c.args.side c.args.vars) (sym c.in-App.is) in
+    prefix-one c.in-App.op arg c.args.side c.args.vars negated
+    ∙ ap (λ (ts : List Term). prefix_of (App c.in-App.op ts) c.args.side c.args.vars) (sym one)
+    ∙ ap (λ (term : Term). prefix_of term c.args.side c.args.vars) (sym c.in-App.is) in
     subst (λ (made : Prefix). IfOk c.prefix_of-in-len1.result (λ prefix. seen prefix ≡ made)) whole c.prefix_of-in-len1.ensures
 
 pub returns-in-empty : goal.returns-in-empty
