@@ -62,6 +62,16 @@ fn is_read(alloc: Global, row: &[u8]) -> Result<bool, TextErr> {
     }
 }
 
+/// The place of the first row that isn't read as it tells.
+fn first_misread(alloc: Global, rows: &[&[u8]]) -> Result<Option<usize>, TextErr> {
+    for (i, row) in rows.iter().enumerate() {
+        if !is_read(alloc, row)? {
+            return Ok(Some(i));
+        }
+    }
+    Ok(None)
+}
+
 #[test]
 fn operators_stand_for_their_terms(rt: HostRuntime) -> Result<(), Fail> {
     let rows = [
@@ -74,9 +84,7 @@ fn operators_stand_for_their_terms(rt: HostRuntime) -> Result<(), Fail> {
         b"(mod (abs x) 3) ~ (Mod (Ite (Lt v0 0) (Sub 0 v0) v0) 3)",
         b"((_ divisible 3) x) ~ (Eq (Mod v0 3) 0)",
     ];
-    for row in rows {
-        assert!(rt; is_read(rt.alloc(), row)?, "at {}", row.len());
-    }
+    assert_eq!(rt; first_misread(rt.alloc(), &rows)?, None);
     Ok(())
 }
 
@@ -92,9 +100,7 @@ fn chains_and_pairs_are_spelled_out(rt: HostRuntime) -> Result<(), Fail> {
         b"(- x (+ 1 2 3) 4) ~ (Sub (Sub v0 (Add (Add 1 2) 3)) 4)",
         b"(div x (* 2 3 (+ 4)) 5) ~ (Div (Div v0 (Mul (Mul 2 3) 4)) 5)",
     ];
-    for row in rows {
-        assert!(rt; is_read(rt.alloc(), row)?, "at {}", row.len());
-    }
+    assert_eq!(rt; first_misread(rt.alloc(), &rows)?, None);
     Ok(())
 }
 
@@ -110,9 +116,7 @@ fn bound_names_stand_for_what_is_bound(rt: HostRuntime) -> Result<(), Fail> {
         b"(let () (! y :named foo)) ~ v1",
         b"(forall ((z Bool) (k Int)) (let ((true z)) (= true (< k 0)))) ~ (Forall 2 (Eq v4 (Lt v5 0)))",
     ];
-    for row in rows {
-        assert!(rt; is_read(rt.alloc(), row)?, "at {}", row.len());
-    }
+    assert_eq!(rt; first_misread(rt.alloc(), &rows)?, None);
     Ok(())
 }
 
@@ -128,9 +132,7 @@ fn datatypes_and_arrays_are_read(rt: HostRuntime) -> Result<(), Fail> {
         b"(is-nil l) ~ (Is(0, 0) v3)",
         b"(= green red) ~ (Eq (Make(1, 1)) (Make(1, 0)))",
     ];
-    for row in rows {
-        assert!(rt; is_read(rt.alloc(), row)?, "at {}", row.len());
-    }
+    assert_eq!(rt; first_misread(rt.alloc(), &rows)?, None);
     Ok(())
 }
 
@@ -146,9 +148,7 @@ fn declared_names_are_applied(rt: HostRuntime) -> Result<(), Fail> {
         b"(let ((q x) (x 1)) (- q x)) ~ (Sub v0 1)",
         b"(and (forall ((x Bool) (x2 L)) (= x y)) (< x 1)) ~ (And (Forall 2 (Eq v4 v1)) (Lt v0 1))",
     ];
-    for row in rows {
-        assert!(rt; is_read(rt.alloc(), row)?, "at {}", row.len());
-    }
+    assert_eq!(rt; first_misread(rt.alloc(), &rows)?, None);
     Ok(())
 }
 
@@ -164,9 +164,7 @@ fn faults_of_heads(rt: HostRuntime) -> Result<(), Fail> {
         b"((_  is 1) l) ~ NotSupported 1 (_ is 1)",
         b"(_ is nil) ~ NotSupported 0 (_ is nil)",
     ];
-    for row in rows {
-        assert!(rt; is_read(rt.alloc(), row)?, "at {}", row.len());
-    }
+    assert_eq!(rt; first_misread(rt.alloc(), &rows)?, None);
     Ok(())
 }
 
@@ -182,9 +180,7 @@ fn faults_of_forms(rt: HostRuntime) -> Result<(), Fail> {
         b"(forall ((z (Array Bool Int))) y) ~ ArrayIndex 12 ",
         b"((as nil (Array Int K)) 1) ~ UnknownSort 9 K",
     ];
-    for row in rows {
-        assert!(rt; is_read(rt.alloc(), row)?, "at {}", row.len());
-    }
+    assert_eq!(rt; first_misread(rt.alloc(), &rows)?, None);
     Ok(())
 }
 
@@ -200,9 +196,7 @@ fn faults_of_counts_sorts_and_names(rt: HostRuntime) -> Result<(), Fail> {
         b"(or y (p y x)) ~ WrongSort 6 ",
         b"(p (f) foo) ~ WrongCount 3 ",
     ];
-    for row in rows {
-        assert!(rt; is_read(rt.alloc(), row)?, "at {}", row.len());
-    }
+    assert_eq!(rt; first_misread(rt.alloc(), &rows)?, None);
     Ok(())
 }
 
@@ -227,21 +221,35 @@ fn doubled(alloc: Global, count: usize, within: &[u8]) -> Result<ByteText, NoMem
     Ok(text)
 }
 
+/// Whether the text of those lets is read as is told.
+fn is_doubled_read_as(alloc: Global, count: usize, told: &[u8]) -> Result<bool, TextErr> {
+    let text = doubled(alloc, count, b"(< a 0)")?;
+    is_read_as(alloc, text.bytes(), told)
+}
+
 #[test]
 fn eighteen_lets_are_too_large(rt: HostRuntime) -> Result<(), Fail> {
-    let text = doubled(rt.alloc(), 17, b"(< a 0)")?;
-    assert!(rt; is_read_as(rt.alloc(), text.bytes(), b"TooLarge 332 ")?);
+    assert!(rt; is_doubled_read_as(rt.alloc(), 17, b"TooLarge 332 ")?);
     Ok(())
+}
+
+/// The size of the term that a text is read as.
+fn size_of(alloc: Global, text: &[u8]) -> Result<Option<u64>, TextErr> {
+    match text_reading(alloc, text)? {
+        Some(Ok(term)) => Ok(Some(size(&term))),
+        Some(Err(_)) | None => Ok(None),
+    }
+}
+
+/// The size of the term of those lets.
+fn doubled_size(alloc: Global, count: usize) -> Result<Option<u64>, TextErr> {
+    let text = doubled(alloc, count, b"a")?;
+    size_of(alloc, text.bytes())
 }
 
 #[test]
 fn seventeen_lets_are_read(rt: HostRuntime) -> Result<(), Fail> {
-    let text = doubled(rt.alloc(), 16, b"a")?;
-    let read = text_reading(rt.alloc(), text.bytes())?;
-    match &read {
-        Some(Ok(term)) => assert_eq!(rt; size(term), 262_143),
-        Some(Err(_)) | None => assert!(rt; false),
-    }
+    assert_eq!(rt; doubled_size(rt.alloc(), 16)?, Some(262_143));
     Ok(())
 }
 
@@ -252,16 +260,30 @@ fn negated(alloc: Global, count: usize) -> Result<ByteText, NoMemory> {
     Ok(text)
 }
 
+/// The depth of the term that a text is read as.
+fn depth_of(alloc: Global, text: &[u8]) -> Result<Option<u64>, TextErr> {
+    match text_reading(alloc, text)? {
+        Some(Ok(term)) => Ok(Some(depth(&term))),
+        Some(Err(_)) | None => Ok(None),
+    }
+}
+
+/// The depth of the term of `y`, negated so many times.
+fn negated_depth(alloc: Global, count: usize) -> Result<Option<u64>, TextErr> {
+    let text = negated(alloc, count)?;
+    depth_of(alloc, text.bytes())
+}
+
+/// Whether `y`, negated so many times, is read as is told.
+fn is_negated_read_as(alloc: Global, count: usize, told: &[u8]) -> Result<bool, TextErr> {
+    let text = negated(alloc, count)?;
+    is_read_as(alloc, text.bytes(), told)
+}
+
 #[test]
 fn nine_hundred_levels_are_read(rt: HostRuntime) -> Result<(), Fail> {
-    let text = negated(rt.alloc(), 899)?;
-    let read = text_reading(rt.alloc(), text.bytes())?;
-    match &read {
-        Some(Ok(term)) => assert_eq!(rt; depth(term), 900),
-        Some(Err(_)) | None => assert!(rt; false),
-    }
-    let text = negated(rt.alloc(), 900)?;
-    assert!(rt; is_read_as(rt.alloc(), text.bytes(), b"TooDeep 0 ")?);
+    assert_eq!(rt; negated_depth(rt.alloc(), 899)?, Some(900));
+    assert!(rt; is_negated_read_as(rt.alloc(), 900, b"TooDeep 0 ")?);
     Ok(())
 }
 
@@ -274,24 +296,33 @@ fn under_arrays(alloc: Global, count: usize) -> Result<ByteText, NoMemory> {
     Ok(text)
 }
 
+/// Whether `y` under a variable of so many arrays is read as is told.
+fn is_read_under_arrays(alloc: Global, count: usize, told: &[u8]) -> Result<bool, TextErr> {
+    let text = under_arrays(alloc, count)?;
+    is_read_as(alloc, text.bytes(), told)
+}
+
 #[test]
 fn sorts_of_sixteen_levels_are_read(rt: HostRuntime) -> Result<(), Fail> {
-    let text = under_arrays(rt.alloc(), 15)?;
-    assert!(rt; is_read_as(rt.alloc(), text.bytes(), b"(Forall 1 v1)")?);
-    let text = under_arrays(rt.alloc(), 16)?;
-    assert!(rt; is_read_as(rt.alloc(), text.bytes(), b"SortTooDeep 12 ")?);
+    assert!(rt; is_read_under_arrays(rt.alloc(), 15, b"(Forall 1 v1)")?);
+    assert!(rt; is_read_under_arrays(rt.alloc(), 16, b"SortTooDeep 12 ")?);
     Ok(())
 }
 
-/// Whether the sort on a row's one side is spelled as its other side tells.
-fn is_spelled(alloc: Global, row: &[u8]) -> Result<bool, TextErr> {
-    let Some((text, told)) = sides(row) else {
-        return Ok(false);
-    };
+/// Whether the sort that a text spells is as is told.
+fn is_spelled_as(alloc: Global, text: &[u8], told: &[u8]) -> Result<bool, TextErr> {
     let trees = trees_of(alloc, text)?;
     match trees.as_slice() {
         [tree] => Ok(sort_told(alloc, &sort_spec(alloc, tree))?.bytes() == told),
         [] | [_, _, ..] => Ok(false),
+    }
+}
+
+/// Whether the sort on a row's one side is spelled as its other side tells.
+fn is_spelled(alloc: Global, row: &[u8]) -> Result<bool, TextErr> {
+    match sides(row) {
+        Some((text, told)) => is_spelled_as(alloc, text, told),
+        None => Ok(false),
     }
 }
 
@@ -304,21 +335,35 @@ fn sorts_are_spelled(rt: HostRuntime) -> Result<(), Fail> {
         b"(Array Int) ~ BadCommand 0 ",
         b"(Array Int (L)) ~ BadCommand 11 ",
     ];
-    for row in rows {
-        assert!(rt; is_spelled(rt.alloc(), row)?, "at {}", row.len());
+    for (i, row) in rows.iter().enumerate() {
+        assert!(rt; is_spelled(rt.alloc(), row)?, "{i}");
     }
     Ok(())
+}
+
+/// Whether the name stands for a predicate of that number, without positions.
+fn is_predicate(symbols: &Symbols, name: &[u8], wanted: u32) -> bool {
+    match symbols.find(name) {
+        Some(Symbol::Pred(number, sorts)) => *number == wanted && sorts.len() == 0,
+        Some(Symbol::Def(_, _)) | None => false,
+    }
+}
+
+/// Whether the name stands for nothing.
+fn is_free(symbols: &Symbols, name: &[u8]) -> bool {
+    symbols.find(name).is_none()
 }
 
 #[test]
 fn a_symbol_is_found_by_its_name(rt: HostRuntime) -> Result<(), Fail> {
     let mut symbols = Symbols::new(rt.alloc());
-    let symbol = Symbol::Pred(7, List::new(rt.alloc()));
-    declare(rt.alloc(), &mut symbols, b"p", symbol)?;
-    match symbols.find(b"p") {
-        Some(Symbol::Pred(number, sorts)) => assert!(rt; *number == 7 && sorts.len() == 0),
-        Some(Symbol::Def(_, _)) | None => assert!(rt; false),
-    }
-    assert!(rt; symbols.find(b"pp").is_none());
+    declare(
+        rt.alloc(),
+        &mut symbols,
+        b"p",
+        Symbol::Pred(7, List::new(rt.alloc())),
+    )?;
+    assert!(rt; is_predicate(&symbols, b"p", 7));
+    assert!(rt; is_free(&symbols, b"pp"));
     Ok(())
 }

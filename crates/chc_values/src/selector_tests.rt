@@ -21,21 +21,32 @@ fn field(alloc: Global, selector: &[u8], sort: &[u8]) -> Result<FieldSpec, NoMem
     Ok(FieldSpec { name, sort })
 }
 
-/// `nil`, and `cons` with the fields `hd` of Int and `tl`.
-fn lists(alloc: Global) -> Result<List<DataSpec>, NoMemory> {
+/// The fields `hd` of Int and `tl`.
+fn fields(alloc: Global) -> Result<List<FieldSpec>, NoMemory> {
     let mut fields = List::new(alloc);
     fields.push(field(alloc, b"hd", b"Int")?)?;
     fields.push(field(alloc, b"tl", b"Lst")?)?;
+    Ok(fields)
+}
+
+/// A constructor of a name and its fields.
+fn ctor(alloc: Global, text: &[u8], fields: List<FieldSpec>) -> Result<CtorSpec, NoMemory> {
+    let name = name(alloc, text)?;
+    Ok(CtorSpec { name, fields })
+}
+
+/// `nil`, and `cons` with its fields.
+fn ctors(alloc: Global) -> Result<List<CtorSpec>, NoMemory> {
     let mut ctors = List::new(alloc);
-    ctors.push(CtorSpec {
-        name: name(alloc, b"nil")?,
-        fields: List::new(alloc),
-    })?;
-    ctors.push(CtorSpec {
-        name: name(alloc, b"cons")?,
-        fields,
-    })?;
+    ctors.push(ctor(alloc, b"nil", List::new(alloc))?)?;
+    ctors.push(ctor(alloc, b"cons", fields(alloc)?)?)?;
+    Ok(ctors)
+}
+
+/// The group of the lists alone.
+fn lists(alloc: Global) -> Result<List<DataSpec>, NoMemory> {
     let name = name(alloc, b"Lst")?;
+    let ctors = ctors(alloc)?;
     let mut group = List::new(alloc);
     group.push(DataSpec { name, ctors })?;
     Ok(group)
@@ -49,20 +60,56 @@ fn signature(alloc: Global) -> Result<Sig, SigErr> {
     Ok(sig)
 }
 
-/// The value `nil`, or the number.
-fn key(alloc: Global, number: Option<i128>) -> Value {
-    match number {
-        None => Value::Data(0, 0, List::new(alloc)),
-        Some(n) => Value::Int(n),
+/// The number of a digit.
+fn digit(letter: u8) -> u32 {
+    u32::from(letter.saturating_sub(b'0'))
+}
+
+/// The value `cons` of 1 on `nil`.
+fn cons(alloc: Global) -> Result<Value, NoMemory> {
+    let mut fields = List::new(alloc);
+    fields.push(Value::Int(1))?;
+    fields.push(Value::Data(0, 0, List::new(alloc)))?;
+    Ok(Value::Data(0, 1, fields))
+}
+
+/// The value of a letter: `n` for `nil`, `c` for a `cons`, `t` for true, a digit for the number.
+fn value_of(alloc: Global, letter: u8) -> Result<Value, NoMemory> {
+    match letter {
+        b'n' => Ok(Value::Data(0, 0, List::new(alloc))),
+        b'c' => cons(alloc),
+        b't' => Ok(Value::Bool(true)),
+        _ => Ok(Value::Int(i128::from(digit(letter)))),
     }
 }
 
-/// `Int` of the number, or true.
-fn answer(number: Option<i128>) -> Value {
-    match number {
-        None => Value::Bool(true),
-        Some(n) => Value::Int(n),
+/// A letter for each answer.
+fn told(answer: Result<(), WorldErr>) -> u8 {
+    match answer {
+        Ok(()) => b'o',
+        Err(WorldErr::WrongSort) => b'w',
+        Err(WorldErr::Twice) => b't',
+        Err(WorldErr::NoMemory) => b'm',
     }
+}
+
+/// Whether the world answers as a row says: digits for datatype, constructor and field, letters for the value asked of
+/// and the result, and that of the answer.
+fn is_told(alloc: Global, sig: &Sig, world: &mut World, row: &[u8]) -> Result<bool, NoMemory> {
+    match row {
+        [d, c, i, key, result, wanted] => {
+            let key = value_of(alloc, *key)?;
+            let result = value_of(alloc, *result)?;
+            let answer = world.add_sel(sig, digit(*d), digit(*c), digit(*i), key, result);
+            Ok(told(answer) == *wanted)
+        }
+        _ => Ok(false),
+    }
+}
+
+/// How many entries the world has.
+fn count(world: &World) -> usize {
+    world.entries().len()
 }
 
 #[test]
@@ -70,28 +117,23 @@ fn selectors_stand_on_other_constructors(rt: HostRuntime) -> Result<(), Fail> {
     let alloc = rt.alloc();
     let sig = signature(alloc)?;
     let mut world = World::new(alloc);
-    let wrong = Err(WorldErr::WrongSort);
-    for (d, c, i, k, r, wanted) in [
-        (0, 1, 0, None, None, wrong),
-        (0, 1, 0, None, Some(5), Ok(())),
-        (0, 1, 0, None, Some(6), Err(WorldErr::Twice)),
-        (0, 1, 0, None, None, wrong),
-        (0, 1, 0, Some(1), Some(5), wrong),
-        (0, 1, 1, None, Some(5), wrong),
-        (0, 1, 2, None, Some(5), wrong),
-        (0, 0, 0, None, Some(5), wrong),
-        (0, 2, 0, None, Some(5), wrong),
-        (1, 1, 0, None, Some(5), wrong),
-    ] {
-        let added = world.add_sel(&sig, d, c, i, key(alloc, k), answer(r));
-        assert_eq!(rt; added, wanted, "{d} {c} {i}");
+    let rows = [
+        b"010ntw".as_slice(),
+        b"010n5o",
+        b"010n6t",
+        b"010ntw",
+        b"01015w",
+        b"011n5w",
+        b"012n5w",
+        b"000n5w",
+        b"020n5w",
+        b"110n5w",
+    ];
+    for (i, row) in rows.iter().enumerate() {
+        assert!(rt; is_told(alloc, &sig, &mut world, row)?, "{i}");
     }
-    assert_eq!(rt; world.entries().len(), 1);
-    let mut fields = List::new(alloc);
-    fields.push(Value::Int(1))?;
-    fields.push(key(alloc, None))?;
-    let cons = Value::Data(0, 1, fields);
-    assert_eq!(rt; world.add_sel(&sig, 0, 1, 0, cons, Value::Int(5)), wrong);
-    assert_eq!(rt; world.entries().len(), 1);
+    assert_eq!(rt; count(&world), 1);
+    assert!(rt; is_told(alloc, &sig, &mut world, b"010c5w")?);
+    assert_eq!(rt; count(&world), 1);
     Ok(())
 }

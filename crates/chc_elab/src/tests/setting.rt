@@ -82,13 +82,19 @@ fn add_datatype(alloc: Global, group: &mut List<DataSpec>, tree: &Tree) -> Resul
     Ok(())
 }
 
-/// The datatypes `L` of lists, number 0, and `C` of two colours, number 1; none where they are refused.
-fn signature(alloc: Global) -> Result<Sig, TextErr> {
-    let trees = trees_of(alloc, b"(L (nil) (cons (hd Int) (tl L)))(C (red) (green))")?;
+/// The datatypes of a text.
+fn group_of(alloc: Global, text: &[u8]) -> Result<List<DataSpec>, TextErr> {
+    let trees = trees_of(alloc, text)?;
     let mut group = List::new(alloc);
     for tree in trees.as_slice() {
         add_datatype(alloc, &mut group, tree)?;
     }
+    Ok(group)
+}
+
+/// The datatypes `L` of lists, number 0, and `C` of two colours, number 1; none where they are refused.
+fn signature(alloc: Global) -> Result<Sig, TextErr> {
+    let group = group_of(alloc, b"(L (nil) (cons (hd Int) (tl L)))(C (red) (green))")?;
     let mut sig = Sig::new(alloc);
     let _answer = sig.add_group(alloc, group.as_slice(), &List::new(alloc));
     Ok(sig)
@@ -130,28 +136,43 @@ pub fn declare(
     Ok(())
 }
 
-/// A definition with parameters of those sorts, and of the given sort itself.
-fn definition(number: u64, params: List<Sort>, sort: Sort) -> Symbol {
-    Symbol::Def(
-        number,
-        FunSort {
-            params,
-            result: sort,
-        },
-    )
+/// Declares a predicate with positions of the sorts that a text spells.
+fn declare_pred(
+    alloc: Global,
+    sig: &Sig,
+    symbols: &mut Symbols,
+    name: &[u8],
+    number: u32,
+    text: &[u8],
+) -> Result<(), TextErr> {
+    let sorts = sorts_of(alloc, sig, text)?;
+    declare(alloc, symbols, name, Symbol::Pred(number, sorts))?;
+    Ok(())
+}
+
+/// Declares a definition of the sort, with parameters of the sorts that a text spells.
+fn declare_def(
+    alloc: Global,
+    sig: &Sig,
+    symbols: &mut Symbols,
+    name: &[u8],
+    definition: (u64, Sort),
+    text: &[u8],
+) -> Result<(), TextErr> {
+    let (number, result) = definition;
+    let params = sorts_of(alloc, sig, text)?;
+    let symbol = Symbol::Def(number, FunSort { params, result });
+    declare(alloc, symbols, name, symbol)?;
+    Ok(())
 }
 
 /// The predicates `p` and `q`, and the definitions `f` and `c`.
 fn symbols(alloc: Global, sig: &Sig) -> Result<Symbols, TextErr> {
     let mut symbols = Symbols::new(alloc);
-    let p = Symbol::Pred(0, sorts_of(alloc, sig, b"Int Bool")?);
-    declare(alloc, &mut symbols, b"p", p)?;
-    let q = Symbol::Pred(1, List::new(alloc));
-    declare(alloc, &mut symbols, b"q", q)?;
-    let f = definition(0, sorts_of(alloc, sig, b"Int")?, Sort::Int);
-    declare(alloc, &mut symbols, b"f", f)?;
-    let c = definition(1, List::new(alloc), Sort::Bool);
-    declare(alloc, &mut symbols, b"c", c)?;
+    declare_pred(alloc, sig, &mut symbols, b"p", 0, b"Int Bool")?;
+    declare_pred(alloc, sig, &mut symbols, b"q", 1, b"")?;
+    declare_def(alloc, sig, &mut symbols, b"f", (0, Sort::Int), b"Int")?;
+    declare_def(alloc, sig, &mut symbols, b"c", (1, Sort::Bool), b"")?;
     Ok(symbols)
 }
 

@@ -1,16 +1,55 @@
 //! Texts of terms, written sorts and faults.
 
 use chc_sexpr::{TextErr, TextFault};
-use chc_sorts::{NoMemory, SortSpec};
+use chc_sorts::{NoMemory, Op, SortSpec};
 use chc_source::ByteText;
-use chc_terms::{Term, Terms};
+use chc_terms::{Kind, Term, Terms};
 use std::alloc::Global;
 
-/// Writes a head and its terms between parentheses.
-#[cycle(told)]
-fn tell_on(alloc: Global, out: &mut ByteText, head: &[u8], terms: &Terms) -> Result<(), NoMemory> {
+/// Writes a letter and a number.
+fn tell_number(alloc: Global, out: &mut ByteText, letter: u8, number: u64) -> Result<(), NoMemory> {
+    out.push(letter)?;
+    out.extend(format!(in alloc; "{number}")?.as_bytes())
+}
+
+/// Writes an integer.
+fn tell_integer(alloc: Global, out: &mut ByteText, n: i128) -> Result<(), NoMemory> {
+    out.extend(format!(in alloc; "{n}")?.as_bytes())
+}
+
+/// Writes a truth value.
+fn tell_truth(out: &mut ByteText, truth: bool) -> Result<(), NoMemory> {
+    if truth {
+        out.extend(b"true")
+    } else {
+        out.extend(b"false")
+    }
+}
+
+/// Writes an open parenthesis and an operator.
+fn begin_operator(alloc: Global, out: &mut ByteText, op: &Op) -> Result<(), NoMemory> {
+    out.extend(format!(in alloc; "({op:?}")?.as_bytes())
+}
+
+/// Writes an open parenthesis, a letter and a number.
+fn begin_number(alloc: Global, out: &mut ByteText, letter: u8, n: u64) -> Result<(), NoMemory> {
     out.push(b'(')?;
-    out.extend(head)?;
+    tell_number(alloc, out, letter, n)
+}
+
+/// Writes an open parenthesis, a quantifier and the number of its sorts.
+fn begin_quantifier(
+    alloc: Global,
+    out: &mut ByteText,
+    kind: Kind,
+    count: usize,
+) -> Result<(), NoMemory> {
+    out.extend(format!(in alloc; "({kind:?} {count} ")?.as_bytes())
+}
+
+/// Writes a space and a term for each term, and a closing parenthesis.
+#[cycle(told)]
+fn tell_rest(alloc: Global, out: &mut ByteText, terms: &Terms) -> Result<(), NoMemory> {
     for term in terms.as_slice() {
         out.push(b' ')?;
         tell_term(alloc, out, term)?;
@@ -22,15 +61,23 @@ fn tell_on(alloc: Global, out: &mut ByteText, head: &[u8], terms: &Terms) -> Res
 #[cycle(told)]
 fn tell_term(alloc: Global, out: &mut ByteText, term: &Term) -> Result<(), NoMemory> {
     match term {
-        Term::Var(i) => out.extend(format!(in alloc; "v{i}")?.as_bytes()),
-        Term::Num(n) => out.extend(format!(in alloc; "{n}")?.as_bytes()),
-        Term::Lit(truth) => out.extend(format!(in alloc; "{truth}")?.as_bytes()),
-        Term::App(op, terms) => tell_on(alloc, out, format!(in alloc; "{op:?}")?.as_bytes(), terms),
-        Term::Pred(p, terms) => tell_on(alloc, out, format!(in alloc; "p{p}")?.as_bytes(), terms),
-        Term::Call(k, terms) => tell_on(alloc, out, format!(in alloc; "d{k}")?.as_bytes(), terms),
+        Term::Var(i) => tell_number(alloc, out, b'v', u64::from(*i)),
+        Term::Num(n) => tell_integer(alloc, out, *n),
+        Term::Lit(truth) => tell_truth(out, *truth),
+        Term::App(op, terms) => {
+            begin_operator(alloc, out, op)?;
+            tell_rest(alloc, out, terms)
+        }
+        Term::Pred(p, terms) => {
+            begin_number(alloc, out, b'p', u64::from(*p))?;
+            tell_rest(alloc, out, terms)
+        }
+        Term::Call(k, terms) => {
+            begin_number(alloc, out, b'd', *k)?;
+            tell_rest(alloc, out, terms)
+        }
         Term::Quant(kind, sorts, body) => {
-            let count = sorts.len();
-            out.extend(format!(in alloc; "({kind:?} {count} ")?.as_bytes())?;
+            begin_quantifier(alloc, out, *kind, sorts.len())?;
             tell_term(alloc, out, body.get())?;
             out.push(b')')
         }
@@ -53,9 +100,9 @@ fn tell_sort(out: &mut ByteText, sort: &SortSpec) -> Result<(), NoMemory> {
 
 /// Writes a fault, its place and its name.
 fn tell_fault(alloc: Global, out: &mut ByteText, found: &TextFault) -> Result<(), NoMemory> {
-    let place = found.place;
     out.extend(found.fault.name())?;
-    out.extend(format!(in alloc; " {place} ")?.as_bytes())?;
+    tell_number(alloc, out, b' ', found.place)?;
+    out.push(b' ')?;
     out.extend(found.name.bytes())
 }
 

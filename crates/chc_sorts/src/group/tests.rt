@@ -69,8 +69,48 @@ fn add_many_fields(
     Ok(())
 }
 
-/// The group of a text in parts of three letters: a field's kind, name and sort (with kind `m` sixty-five fields), before
-/// its constructor `cK.`, which stands before its datatype `dT.`.
+/// Adds a constructor of the fields.
+fn add_ctor(
+    alloc: Global,
+    ctors: &mut List<CtorSpec>,
+    name: u8,
+    fields: List<FieldSpec>,
+) -> Result<(), NoMemory> {
+    let name = letter(alloc, name)?;
+    ctors.push(CtorSpec { name, fields })?;
+    Ok(())
+}
+
+/// Adds a datatype of the constructors.
+fn add_datatype(
+    alloc: Global,
+    group: &mut List<DataSpec>,
+    name: u8,
+    ctors: List<CtorSpec>,
+) -> Result<(), NoMemory> {
+    let name = letter(alloc, name)?;
+    group.push(DataSpec { name, ctors })?;
+    Ok(())
+}
+
+/// Adds the field of a kind, a name and a sort; with kind `m` sixty-five fields.
+fn add_fields(
+    alloc: Global,
+    fields: &mut List<FieldSpec>,
+    kind: u8,
+    name: u8,
+    sort: u8,
+) -> Result<(), NoMemory> {
+    if kind == b'm' {
+        add_many_fields(alloc, fields, name, sort)
+    } else {
+        let sort = field_sort(alloc, kind, sort)?;
+        add_field(alloc, fields, name, sort)
+    }
+}
+
+/// The group of a text in parts of three letters: a field's kind, name and sort, before its constructor `cK.`, which
+/// stands before its datatype `dT.`.
 fn group_of(alloc: Global, text: &[u8]) -> Result<List<DataSpec>, NoMemory> {
     let mut fields = List::new(alloc);
     let mut ctors = List::new(alloc);
@@ -78,20 +118,14 @@ fn group_of(alloc: Global, text: &[u8]) -> Result<List<DataSpec>, NoMemory> {
     for part in text.chunks(3) {
         match part {
             [b'c', name, _] => {
-                let fields = mem::replace(&mut fields, List::new(alloc));
-                let name = letter(alloc, *name)?;
-                ctors.push(CtorSpec { name, fields })?;
+                let made = mem::replace(&mut fields, List::new(alloc));
+                add_ctor(alloc, &mut ctors, *name, made)?;
             }
             [b'd', name, _] => {
-                let ctors = mem::replace(&mut ctors, List::new(alloc));
-                let name = letter(alloc, *name)?;
-                group.push(DataSpec { name, ctors })?;
+                let made = mem::replace(&mut ctors, List::new(alloc));
+                add_datatype(alloc, &mut group, *name, made)?;
             }
-            [b'm', first, sort] => add_many_fields(alloc, &mut fields, *first, *sort)?,
-            [kind, name, sort] => {
-                let sort = field_sort(alloc, *kind, *sort)?;
-                add_field(alloc, &mut fields, *name, sort)?;
-            }
+            [kind, name, sort] => add_fields(alloc, &mut fields, *kind, *name, *sort)?,
             _ => {}
         }
     }
@@ -132,11 +166,22 @@ fn is_told(alloc: Global, sig: &mut Sig, preds: &List<Name>, row: &[u8]) -> Resu
     }
 }
 
+/// The names of the predicates: `q`.
+fn predicates(alloc: Global) -> Result<List<Name>, NoMemory> {
+    let mut preds = List::new(alloc);
+    preds.push(letter(alloc, b'q')?)?;
+    Ok(preds)
+}
+
+/// Whether the signature has as many datatypes, in groups of those sizes.
+fn has_groups(sig: &Sig, count: usize, sizes: &[u32]) -> bool {
+    sig.datatypes().len() == count && sig.groups().as_slice() == sizes
+}
+
 #[test]
 fn groups_are_told_apart(rt: HostRuntime) -> Result<(), Fail> {
     let alloc = rt.alloc();
-    let mut preds = List::new(alloc);
-    preds.push(letter(alloc, b'q')?)?;
+    let preds = predicates(alloc)?;
     let mut sig = Sig::new(alloc);
     let rows = [
         b"cr.cg.cb.dC.o.".as_slice(),
@@ -154,10 +199,9 @@ fn groups_are_told_apart(rt: HostRuntime) -> Result<(), Fail> {
         b"p1Ac3.dA.p.",
         b"m\x80AcK.dA.m4",
     ];
-    for row in rows {
-        assert!(rt; is_told(alloc, &mut sig, &preds, row)?);
+    for (i, row) in rows.iter().enumerate() {
+        assert!(rt; is_told(alloc, &mut sig, &preds, row)?, "{i}");
     }
-    assert_eq!(rt; sig.datatypes().len(), 6);
-    assert_eq!(rt; sig.groups().as_slice(), [1, 1, 1, 2, 1].as_slice());
+    assert!(rt; has_groups(&sig, 6, &[1, 1, 1, 2, 1]));
     Ok(())
 }

@@ -25,21 +25,28 @@ fn word(alloc: Global, letter: u8) -> Result<Name, NoMemory> {
     Ok(name)
 }
 
+/// Puts the array of the last two parts in their place; false where there are no two.
+fn join(alloc: Global, parts: &mut List<SortSpec>) -> Result<bool, NoMemory> {
+    let Some(element) = parts.pop() else {
+        return Ok(false);
+    };
+    let Some(index) = parts.pop() else {
+        return Ok(false);
+    };
+    let element = Boxed::new(alloc, element)?;
+    let index = Boxed::new(alloc, index)?;
+    parts.push(SortSpec::Array(index, element))?;
+    Ok(true)
+}
+
 /// The sort whose parts stand before their `A`, which is an array: `ibA` is `(Array Int Bool)`.
 fn spec_of(alloc: Global, letters: &[u8]) -> Result<Option<SortSpec>, NoMemory> {
     let mut parts: List<SortSpec> = List::new(alloc);
     for letter in letters {
-        if *letter == b'A' {
-            match (parts.pop(), parts.pop()) {
-                (Some(element), Some(index)) => {
-                    let element = Boxed::new(alloc, element)?;
-                    let index = Boxed::new(alloc, index)?;
-                    parts.push(SortSpec::Array(index, element))?;
-                }
-                _ => return Ok(None),
-            }
-        } else {
+        if *letter != b'A' {
             parts.push(SortSpec::Named(word(alloc, *letter)?))?;
+        } else if !join(alloc, &mut parts)? {
+            return Ok(None);
         }
     }
     Ok(parts.pop())

@@ -41,10 +41,9 @@ fn sorts_are_told_apart(rt: HostRuntime) -> Result<(), Fail> {
 
 #[test]
 fn arrays_are_told_apart(rt: HostRuntime) -> Result<(), Fail> {
-    let alloc = rt.alloc();
-    let left = array(alloc, Sort::Int)?;
-    let right = array(alloc, Sort::Bool)?;
-    assert!(rt; !same_sort(&left, &right));
+    let left = array(rt.alloc(), Sort::Int)?;
+    let right = array(rt.alloc(), Sort::Bool)?;
+    assert!(rt; !are_same(left, right));
     Ok(())
 }
 

@@ -48,8 +48,43 @@ fn name_at(alloc: Global, kind: u8, place: usize) -> Result<Name, NoMemory> {
     name(alloc, [kind, (place % 256) as u8].as_slice())
 }
 
-/// The datatypes of a text, in which letters are fields, `,` ends a constructor and `;` a datatype. They are named
-/// by their digits.
+/// Adds the datatype of the constructors, named by its digit.
+fn add_datatype(
+    alloc: Global,
+    group: &mut List<DataSpec>,
+    ctors: List<CtorSpec>,
+) -> Result<(), NoMemory> {
+    let name = name(alloc, [digit(group.len() as u64)].as_slice())?;
+    group.push(DataSpec { name, ctors })?;
+    Ok(())
+}
+
+/// Adds the constructor of the fields, named by its place.
+fn add_ctor(
+    alloc: Global,
+    ctors: &mut List<CtorSpec>,
+    fields: List<FieldSpec>,
+    place: usize,
+) -> Result<(), NoMemory> {
+    let name = name_at(alloc, b'c', place)?;
+    ctors.push(CtorSpec { name, fields })?;
+    Ok(())
+}
+
+/// Adds a field of the letter's sort, named by its place.
+fn add_field(
+    alloc: Global,
+    fields: &mut List<FieldSpec>,
+    letter: u8,
+    place: usize,
+) -> Result<(), NoMemory> {
+    let name = name_at(alloc, b'f', place)?;
+    let sort = sort_of(alloc, letter)?;
+    fields.push(FieldSpec { name, sort })?;
+    Ok(())
+}
+
+/// The datatypes of a text, in which letters are fields, `,` ends a constructor and `;` a datatype.
 fn group_of(alloc: Global, text: &[u8]) -> Result<List<DataSpec>, NoMemory> {
     let mut group = List::new(alloc);
     let mut ctors = List::new(alloc);
@@ -57,20 +92,14 @@ fn group_of(alloc: Global, text: &[u8]) -> Result<List<DataSpec>, NoMemory> {
     for (place, letter) in text.iter().enumerate() {
         match *letter {
             b';' => {
-                let ctors = mem::replace(&mut ctors, List::new(alloc));
-                let name = name(alloc, [digit(group.len() as u64)].as_slice())?;
-                group.push(DataSpec { name, ctors })?;
+                let made = mem::replace(&mut ctors, List::new(alloc));
+                add_datatype(alloc, &mut group, made)?;
             }
             b',' => {
-                let fields = mem::replace(&mut fields, List::new(alloc));
-                let name = name_at(alloc, b'c', place)?;
-                ctors.push(CtorSpec { name, fields })?;
+                let made = mem::replace(&mut fields, List::new(alloc));
+                add_ctor(alloc, &mut ctors, made, place)?;
             }
-            letter => {
-                let name = name_at(alloc, b'f', place)?;
-                let sort = sort_of(alloc, letter)?;
-                fields.push(FieldSpec { name, sort })?;
-            }
+            letter => add_field(alloc, &mut fields, letter, place)?,
         }
     }
     Ok(group)
