@@ -1,20 +1,19 @@
 -- Steps of the reading of bodies.
-use Rattle.std.proofs.Common.{◌≡◌, ◌<◌, ◌≤◌, ◌+◌, ◌&&◌, ◌++◌, ◌∷◌, [], ℕ, ℤ, zero, suc, Bool, true, false, cond, slice_get, nat_eq, List, length, map, drop, get_or, remove, refl, ap, sym, subst, ◌∙◌, Option, Some, None, arith}
-use Rattle.std.specs.List.{AllByRecursion}
+use Rattle.std.proofs.Common.{◌≡◌, ◌<◌, ◌≤◌, ◌+◌, ◌++◌, ◌∷◌, [], ℕ, zero, suc, Bool, true, false, cond, slice_get, List, length, map, drop, get_or, remove, refl, ap, sym, ◌∙◌, Option, Some, None, arith}
 use Rattle.std.specs.Option.{option_map}
 use Rattle.std.proofs.lemmas.List.{length-append}
 use Rattle.chc_sorts.specs.declared.op.Op.{Op}
 use Rattle.chc_sorts.specs.declared.op.Op.TheVariants as op
-use Rattle.chc_sexpr.proofs.Folds.{fold-Symbol, fold-Word, fold-Keyword, fold-Numeral, fold-Text, fold-Other, TreeCases, tree_ind}
+use Rattle.chc_sexpr.proofs.Folds.{fold-Symbol, fold-Word, fold-Keyword, fold-Numeral, fold-Text, fold-Other, tree_ind}
 use Rattle.chc_sexpr.specs.declared.tree.Tree.{Tree}
 use Rattle.chc_sexpr.specs.declared.tree.Tree.TheOpen.{Tree-F}
 use Rattle.chc_sexpr.specs.declared.tree.Tree.TheVariants.{Symbol, Word, Keyword, Numeral, Text, Other, Group, outs-Symbol, outs-Word, outs-Keyword, outs-Numeral, outs-Text, outs-Other, outs-Group}
 use Rattle.chc_terms.specs.Sorted.{all_some}
-use Rattle.ans_model.specs.Bodies.{Reading, group_term, headed, named_term, op_named, turned, turned_named, exchanged, applied, application, beside, is_negation, is_minus, operation, typed_all, typed_of}
+use Rattle.ans_model.specs.Bodies.{Reading, turned, exchanged, applied, application, beside, is_negation, operation, typed_all, typed_of}
 use Rattle.ans_model.specs.Counts.{count, count_step, count_all}
 use Rattle.chc_sexpr.specs.Readings.{◌>>=◌}
 use Rattle.ans_model.specs.Scopes.{Binder, binder_of, binders_after, binders_of, flat, with_binder, with_binder_of}
-use Rattle.chc_sexpr.specs.Shapes.{group_at, group_of, symbol_of, word_of}
+use Rattle.chc_sexpr.specs.Shapes.{group_at, group_of}
 use Rattle.ans_model.specs.declared.typed.Typed.{Typed}
 use Rattle.ans_model.proofs.Outcomes.{bind_some}
 use Rattle.ans_model.proofs.Scoping.{flat-append}

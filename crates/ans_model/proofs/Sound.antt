@@ -1,8 +1,7 @@
 -- Definitions that are read define the live predicates, and can be written in an answer.
-use Rattle.std.proofs.Common.{◌≡◌, ◌<◌, ◌≤◌, ◌+◌, ◌&&◌, ◌||◌, ◌++◌, ◌∷◌, [], ℕ, zero, suc, Bool, true, false, not, cond, nat_lt, List, length, map, take, get_or, slice_get, Option, Some, None, codes, refl, ap, sym, subst, ◌∙◌, arith, inl, inr}
-use Rattle.std.specs.Prelude.{◌⊎◌, slice_set, Result, Ok, Err, IfOk, IfSome, is_none, is_some}
+use Rattle.std.proofs.Common.{◌≡◌, ◌<◌, ◌+◌, ◌&&◌, ◌||◌, ◌++◌, ◌∷◌, [], ℕ, zero, suc, Bool, true, false, not, List, length, map, take, slice_get, Option, Some, None, codes, refl, ap, sym, subst, ◌∙◌, arith, inl, inr}
+use Rattle.std.specs.Prelude.{◌⊎◌, slice_set, Result, Ok, Err, IfOk, IfSome}
 use Rattle.std.specs.List.{list_all}
-use Rattle.std.specs.Option.{option_map}
 use Rattle.std.proofs.lemmas.List.{length-append, length-map}
 use Rattle.std.proofs.lemmas.Option.{slice_get_within}
 use Rattle.chc_sorts.specs.Signature.{Signature}
@@ -12,17 +11,17 @@ use Rattle.chc_sorts.specs.declared.sort.Sort.TheVariants as sort
 use Rattle.chc_sexpr.specs.declared.tree.Tree.{Tree}
 use Rattle.chc_terms.specs.declared.fun_sort.FunSort.{FunSort}
 use Rattle.chc_sorts.specs.Sorts.{same_sort, same_sorts, sort_fits}
-use Rattle.chc_terms.specs.Sorted.{Context, sort_of, sorts_fit}
+use Rattle.chc_terms.specs.Sorted.{sort_of, sorts_fit}
 use Rattle.chc_terms.proofs.SameSort.{same_from_test, same_sorts_from_test, same_itself, both_true}
 use Rattle.chc_state.specs.declared.clause.PredDecl.{PredDecl}
 use Rattle.chc_state.specs.declared.defs.Def.{Def}
 use Rattle.chc_state.specs.declared.defs.Defs.{Defs}
 use Rattle.chc_state.specs.States.{StateView}
-use Rattle.chc_state.specs.Definitions.{Defines, DefinedAs, IsPredicateOf, IsDefinition, fun_sort, context_before}
+use Rattle.chc_state.specs.Definitions.{Defines, DefinedAs, IsDefinition, fun_sort}
 use Rattle.ans_model.specs.Bodies.{typed_of}
-use Rattle.ans_model.specs.Models.{is_small, closed_over, body_at, definition_over, definition_parts, definition_at, definition_of, named, Named, takes_sorts, is_vacant, with_definition, with_named, with_tree, defs_after, number_of, no_entries, no_definitions, is_defined, is_settled, are_defined, complete, without_model, defs_in, defs_of, is_answer_sort, is_answer_term, IsAnswerDef, IsAnswer}
+use Rattle.ans_model.specs.Models.{is_small, closed_over, body_at, definition_over, definition_parts, definition_at, definition_of, named, Named, takes_sorts, is_vacant, with_definition, with_named, with_tree, defs_after, number_of, no_entries, no_definitions, is_settled, are_defined, complete, without_model, defs_in, defs_of, is_answer_sort, is_answer_term, IsAnswer}
 use Rattle.chc_sexpr.specs.Readings.{Gives, ◌>>=◌}
-use Rattle.ans_model.specs.Scopes.{Binder, sorts_in, binders_of}
+use Rattle.ans_model.specs.Scopes.{sorts_in, binders_of}
 use Rattle.chc_sexpr.specs.Shapes.{symbol_of, group_of, is_symbol}
 use Rattle.ans_model.specs.declared.typed.Typed.{Typed}
 use Rattle.ans_model.proofs.Outcomes.{bind_some, map_some, cond_some, none_some, same_some}

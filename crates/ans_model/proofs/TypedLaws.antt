@@ -1,5 +1,5 @@
 -- The term that a tree stands for, and the number of its trees, at each variant.
-use Rattle.std.proofs.Common.{◌≡◌, ◌+◌, ℕ, ℤ, List, map, ap, sym, ◌∙◌, Option, Some, None}
+use Rattle.std.proofs.Common.{◌≡◌, ◌+◌, ℕ, ℤ, List, ap, None}
 use Rattle.std.specs.Option.{option_map}
 use Rattle.chc_sexpr.proofs.Folds.{fold-Group, para-Symbol, para-Word, para-Keyword, para-Numeral, para-Text, para-Other, para-Group}
 use Rattle.chc_sexpr.specs.declared.tree.Tree.{Tree}
@@ -8,7 +8,6 @@ use Rattle.ans_model.specs.Bodies.{Reading, number, symbol_term, group_term, typ
 use Rattle.ans_model.specs.Counts.{count, count_step, count_all}
 use Rattle.ans_model.specs.Scopes.{Binder}
 use Rattle.ans_model.specs.Numerals.{numeral_value}
-use Rattle.ans_model.specs.declared.typed.Typed.{Typed}
 
 module _ (scope : List Binder) where
   pub typed_of-Symbol : (place : ℕ) (name : List ℕ) → typed_of (Symbol place name) scope ≡ symbol_term name scope

@@ -1,6 +1,6 @@
 //! The texts of definitions.
 
-ghost use Rattle.std.specs.Prelude.{◌≡◌, ℕ, ◌^◌, ◌<◌, ◌≤◌, ◌++◌, [], length, slice_get, slice_index, Some, IfOk, OnOk};
+ghost use Rattle.std.specs.Prelude.{◌≡◌, ℕ, ◌^◌, ◌<◌, ◌≤◌, ◌++◌, length, slice_get, slice_index, Some, IfOk, OnOk};
 ghost use Rattle.chc_sexpr.specs.Names.{AreNames};
 ghost use Rattle.chc_state.specs.Definitions.{Defines};
 ghost use Rattle.chc_print.specs.Texts.{name_at};
@@ -56,7 +56,7 @@ fn write_definition(
     ensures { OnOk result (out.new ≡ out.old ++ definition_text names.now name.now d.now) }
 {
     write_signature(out, names, name, d)?;
-    write_term(out, names, &d.body, d.params.len() as u64)?;
+    write_term(out, names, &d.body, d.params.len() as u128)?;
     out.extend(b")\n")?;
     Ok(())
 }
@@ -97,13 +97,12 @@ fn text_of(
 
 /// The text of definitions, with variables named beside the names in use.
 fn text_beside(alloc: Global, d: &Defs, s: &State, names: &List<Name>) -> Result<ByteText, NoMemory>
-    requires plain { s.now.sig.datatypes ≡ [] }
     requires defines { Defines d.now s.now }
     requires answer { IsAnswer d.now }
     ensures text { IfOk result (IsDefsText d.now s.now names.now) }
     ensures short { IfOk result (λ text. length text < 2 ^ 64) }
 {
-    let prefix = variable_prefix(alloc, names.as_slice())?;
+    let prefix = variable_prefix(alloc, s.sig(), names.as_slice())?;
     let owners = owners_of(alloc, d)?;
     let calls = List::new(alloc);
     let naming = Naming {
@@ -124,7 +123,6 @@ pub fn defs_text(
     s: &State,
     names: &List<Name>,
 ) -> Result<ByteText, NoMemory>
-    requires plain { s.now.sig.datatypes ≡ [] }
     requires named { length names.now ≡ length s.now.preds }
     requires names { AreNames names.now }
     requires defines { Defines d.now s.now }

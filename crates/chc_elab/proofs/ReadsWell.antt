@@ -4,6 +4,7 @@ use Rattle.std.specs.Prelude.{nat_le, IsTrue}
 use Rattle.std.specs.List.{AllByRecursion, list_all}
 use Rattle.std.proofs.lemmas.Bool.{le-leb}
 use Rattle.chc_sorts.specs.declared.sort.Sort.{Sort}
+use Rattle.chc_sorts.specs.declared.sort.Sort.TheVariants as sort
 use Rattle.chc_sorts.specs.declared.op.Op.{Op}
 use Rattle.chc_sorts.specs.declared.op.Op.TheVariants as op
 use Rattle.chc_sorts.specs.Signature.{Signature}
@@ -14,20 +15,22 @@ use Rattle.chc_sexpr.specs.declared.tree.Tree.TheVariants as tree
 use Rattle.chc_sexpr.proofs.Folds.{fold-Numeral, fold-Group}
 use Rattle.chc_values.specs.Ranges.{is_int_in_range, greatest_int}
 use Rattle.chc_terms.specs.declared.term.Term.{Term, Term-F, fold-Term}
+use Rattle.chc_terms.specs.Numbers.{numbers_fit_step}
 use Rattle.chc_terms.specs.Sorted.{op_fits, sorts_fit, sorts_fit_step}
+use Rattle.chc_terms.proofs.OperatorShapes.{element_from}
 use Rattle.chc_elab.specs.declared.typed.Typed.{Typed}
 use Rattle.chc_elab.specs.declared.sorted_term.SortedTerm.{SortedTerm}
 use Rattle.chc_elab.specs.Sites.{Setting}
 use Rattle.chc_elab.specs.Binders.{outer_site}
 use Rattle.chc_elab.specs.Reads.{read_at}
 use Rattle.chc_elab.specs.Stands.{IsRead}
-use Rattle.chc_elab.specs.WellRead.{Declares, NamesNoDefinition, has_no_call, has_no_call_step, are_numbers_in_range, numbers_step, are_numerals_in_range, numerals_step, IsWellRead, ReadsWell}
+use Rattle.chc_elab.specs.WellRead.{Declares, NamesNoDefinition, has_no_call, has_no_call_step, are_numerals_in_range, numerals_step, IsWellRead, ReadsWell}
 use Rattle.chc_elab.proofs.Asked.{Asks, every, every_step, asked_of_op}
 use Rattle.chc_elab.proofs.AskedReads.{Meets, IsFine, read_fine}
 use Rattle.chc_elab.proofs.Readings.{ok_same, bind_ok}
 use Rattle.chc_elab.proofs.ReadStands.{read_stands}
 use Rattle.chc_elab.proofs.SortedReads.{read_sorted}
-use Rattle.chc_elab.proofs.SpelledSorts.{spelled_fits, element_fits}
+use Rattle.chc_elab.proofs.SpelledSorts.{spelled_fits}
 
 all_yes : {X : Type 0} (xs : List X) → list_all (λ x. true) xs ≡ true
 all_yes [] = refl
@@ -47,7 +50,7 @@ by_nodes a step same t = ap (λ (s : Term-F Bool → Bool). fold-Term Bool s t) 
 
 -- the sorts that a term writes out fit
 abbrev fitting : Signature → Asks
-fitting sig = record { number = λ n. true; element = sort_fits sig; bound = sort_fits sig; call = λ k. true }
+fitting sig = record { number = λ n. true; element = λ s. sort_fits sig (sort.Array s); bound = sort_fits sig; call = λ k. true }
 
 fitting_op : (sig : Signature) (o : Op) → asked_of_op (fitting sig) o ≡ op_fits sig o
 fitting_op sig (op.Const s) = refl
@@ -69,7 +72,7 @@ fitting_meets setting = record {
   minus = λ n h. refl;
   group = λ place ts from. anything ts;
   bound = λ t s is. spelled_fits setting t s is;
-  element = λ t s e is element. element_fits setting.sig s e (spelled_fits setting t s is) element;
+  element = λ t s e is element. ap (sort_fits setting.sig) (sym (element_from s e element)) ∙ spelled_fits setting t s is;
   call = λ name k f is. refl;
 }
 
@@ -109,7 +112,7 @@ ranged_op : (o : Op) → asked_of_op ranged o ≡ true
 ranged_op (op.Const s) = refl
 ranged_op o = refl
 
-ranged_step : (x : Term-F Bool) → every_step ranged x ≡ numbers_step x
+ranged_step : (x : Term-F Bool) → every_step ranged x ≡ numbers_fit_step x
 ranged_step (Term-F.Var i) = refl
 ranged_step (Term-F.Num n) = refl
 ranged_step (Term-F.Lit b) = refl
@@ -157,7 +160,7 @@ read_well setting names sorts t v read =
           sym (by_nodes callless has_no_call_step callless_step v.term)
           ∙ (read_fine callless setting Anything (callless_meets setting none) names sorts t v read tt).holds;
       numbers = λ from.
-          sym (by_nodes ranged numbers_step ranged_step v.term)
+          sym (by_nodes ranged numbers_fit_step ranged_step v.term)
           ∙ (read_fine ranged setting InRange (ranged_meets setting) names sorts t v read from).holds;
     }
 

@@ -10,6 +10,7 @@ use Rattle.chc_values.specs.Ranges.{is_int_in_range}
 use Rattle.chc_terms.specs.declared.fun_sort.FunSort.{FunSort}
 use Rattle.chc_terms.specs.declared.term.Term.{Term, Term-F, fold-Term}
 use Rattle.chc_terms.specs.Counts.{size, depth}
+use Rattle.chc_terms.specs.Numbers.{numbers_fit}
 use Rattle.chc_terms.specs.Sorted.{Context, sort_of, sorts_fit}
 use Rattle.chc_elab.specs.declared.symbols.Symbol.TheVariants as symbol
 use Rattle.chc_elab.specs.declared.sorted_term.SortedTerm.{SortedTerm}
@@ -40,19 +41,6 @@ has_no_call_step (Term-F.Call k parts) = false
 abbrev pub has_no_call : Term → Bool
 has_no_call = fold-Term Bool has_no_call_step
 
-abbrev pub numbers_step : Term-F Bool → Bool
-numbers_step (Term-F.Var i) = true
-numbers_step (Term-F.Num n) = is_int_in_range n
-numbers_step (Term-F.Lit b) = true
-numbers_step (Term-F.App o parts) = list_all (λ b. b) parts
-numbers_step (Term-F.Pred p parts) = list_all (λ b. b) parts
-numbers_step (Term-F.Quant k sorts part) = part
-numbers_step (Term-F.Call k parts) = list_all (λ b. b) parts
-
--- whether each number in the term is from -(2^127 - 1) to 2^127 - 1
-abbrev pub are_numbers_in_range : Term → Bool
-are_numbers_in_range = fold-Term Bool numbers_step
-
 abbrev pub numerals_step : Tree-F Bool → Bool
 numerals_step (Tree-F.Symbol place name) = true
 numerals_step (Tree-F.Word place word) = true
@@ -62,7 +50,7 @@ numerals_step (Tree-F.Text place bytes) = true
 numerals_step (Tree-F.Other place token) = true
 numerals_step (Tree-F.Group place parts) = list_all (λ b. b) parts
 
--- whether each numeral in the tree is
+-- whether each numeral in the tree is from -(2^127 - 1) to 2^127 - 1
 abbrev pub are_numerals_in_range : Tree → Bool
 are_numerals_in_range = fold-Tree Bool numerals_step
 
@@ -75,7 +63,7 @@ pub record IsWellRead (setting : Setting) (sorts : List Sort) (tree : Tree) (t :
   -- every sort that it writes out fits
   pub fitting_sorts : IsTrue (sorts_fit setting.sig t.term)
   pub no_call : NamesNoDefinition setting → IsTrue (has_no_call t.term)
-  pub numbers : IsTrue (are_numerals_in_range tree) → IsTrue (are_numbers_in_range t.term)
+  pub numbers : IsTrue (are_numerals_in_range tree) → IsTrue (numbers_fit t.term)
 
 -- all of it holds of whatever is read
 abbrev pub ReadsWell : Type 0

@@ -35,7 +35,8 @@ pub use laws::{
     what_is_answered_stands, what_is_read_is_said, what_is_read_is_well_sorted,
     what_is_read_stands, what_stands_is_one, what_stands_is_read,
 };
+pub use place::{fault, named_fault, place_of};
 pub use scope::Scope;
-pub use sort_tree::sort_spec;
+pub use sort_tree::{sort_of_tree, sort_spec};
 pub use sorted_term::SortedTerm;
 pub use symbols::{Symbol, Symbols};

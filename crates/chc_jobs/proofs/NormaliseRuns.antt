@@ -3,7 +3,8 @@ use Rattle.std.proofs.Common.{◌≡◌, ◌≢◌, ℕ, ◌<◌, ◌≤◌, Lis
 use Rattle.std.specs.Prelude.{Some}
 use Rattle.chc_source.specs.Outside.{Outside, bytes_at, OnlyReads, OnlyWrites, IsCutShort}
 use Rattle.chc_state.specs.Meaning.{In}
-use Rattle.chc_script.specs.Scripts.{ScriptView, ReadsFirst}
+use Rattle.chc_script.specs.Scripts.{ScriptView}
+use Rattle.first_script.specs.FirstScripts.{ReadsFirst}
 use Rattle.chc_jobs.specs.Jobs.{Normalises}
 use Rattle.chc_jobs.specs.Runs.{FileWord, word_at, Given, most_bytes, Touches, Told, AreShort, HoldTexts, NoFaults, IsDoneOrFree, normalise_files, normalise_job, NormaliseMakes, NormaliseRefuses, NormaliseComes, NormaliseCompletes}
 use Rattle.chc_jobs.specs.Refusals.{WordReadRefusal, WordWriteRefusal, ReadRefusal, BytesRefusal, InputRefusal, OutputRefusal, OnlyReadsAll}

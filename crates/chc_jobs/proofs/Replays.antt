@@ -25,10 +25,6 @@ pub after-sig : (s : StateView) (x : Step) → (after s x).sig ≡ s.sig
 after-sig s (step.Unreached ps) = refl
 after-sig s (step.Unneeded ps) = refl
 
-pub Goes-sig : (s : StateView) (xs : List Step) (z : StateView) → Goes s xs z → z.sig ≡ s.sig
-Goes-sig s [] z e = ap (λ (v : StateView). v.sig) (sym e)
-Goes-sig s (x ∷ xs) z g = Goes-sig (after s x) xs z g.1 ∙ after-sig s x
-
 -- a step more that was taken
 pub Goes-taken : (s : StateView) (xs : List Step) (y : StateView) (x : Step) (z : StateView) → Goes s xs y → IsTaken y x z → Goes s (xs ++ x ∷ []) z
 Goes-taken s xs y x z g t = let P : StateView → Type 0 = λ v. Goes s (xs ++ x ∷ []) v in subst P (sym t.taken) (Goes-more s xs y x g t.legal)

@@ -12,12 +12,13 @@ use Rattle.chc_terms.proofs.SameSort.{same_itself}
 use Rattle.chc_sexpr.specs.declared.tree.Tree.{Tree}
 use Rattle.chc_state.specs.declared.clause.PredDecl.{PredDecl}
 use Rattle.chc_state.specs.Sorts.{positions}
-use Rattle.chc_script.specs.Clauses.{DeclaredView, ints, with_predicate}
+use Rattle.first_script.specs.Clauses.{DeclaredView, ints, with_predicate}
 use Rattle.chc_sexpr.specs.Readings.{◌>>=◌}
 use Rattle.chc_sexpr.specs.Shapes.{symbol_of, is_symbol, form_of}
-use Rattle.chc_script.specs.Scripts.{ScriptView, DraftView, fresh, is_fresh, is_open, at_stage, set_logic, may_declare, declare_at, declare_parts, declare, positions_of, assert, with_assertion, check, command_named, command, commands, closed, script_of, ReadsFirst}
-use Rattle.chc_script.specs.Clauses.{assertion}
-use Rattle.chc_script.specs.declared.first.draft.Stage.TheVariants as stage
+use Rattle.chc_script.specs.Scripts.{ScriptView}
+use Rattle.first_script.specs.FirstScripts.{DraftView, fresh, is_fresh, is_open, at_stage, set_logic, may_declare, declare_at, declare_parts, declare, positions_of, assert, with_assertion, check, command_named, command, commands, closed, script_of, ReadsFirst}
+use Rattle.first_script.specs.Clauses.{assertion}
+use Rattle.first_script.specs.declared.draft.Stage.TheVariants as stage
 use Rattle.ans_model.specs.Models.{is_answer_sort}
 use Rattle.chc_jobs.specs.Replaying.{AreWritable}
 

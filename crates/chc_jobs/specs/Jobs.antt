@@ -10,7 +10,8 @@ use Rattle.chc_sexpr.specs.declared.fault.Fault.TheVariants as fault
 use Rattle.chc_state.specs.States.{StateView}
 use Rattle.chc_state.specs.Sorts.{positions}
 use Rattle.chc_state.specs.Steps.{Goes}
-use Rattle.chc_script.specs.Scripts.{ScriptView, ReadsFirst}
+use Rattle.chc_script.specs.Scripts.{ScriptView}
+use Rattle.first_script.specs.FirstScripts.{ReadsFirst}
 use Rattle.chc_script.specs.Assertions.{KeepsAssertions}
 use Rattle.chc_print.specs.Script.{IsScriptText}
 use Rattle.chc_trace.specs.declared.trace.Trace.{Trace}

@@ -2,7 +2,8 @@
 use Rattle.std.specs.Prelude.{◌≡◌, ◌≢◌, ◌⊎◌, ◌≤◌, ◌<◌, ℕ, List, [], ◌∷◌, Some, IsTrue, length}
 use Rattle.chc_source.specs.Outside.{Outside, bytes_at, Rose, Grows, IsCutShort}
 use Rattle.chc_state.specs.Meaning.{In}
-use Rattle.chc_script.specs.Scripts.{ScriptView, ReadsFirst}
+use Rattle.chc_script.specs.Scripts.{ScriptView}
+use Rattle.first_script.specs.FirstScripts.{ReadsFirst}
 use Rattle.chc_state.specs.States.{StateView}
 use Rattle.chc_state.specs.declared.defs.Defs.{Defs}
 use Rattle.chc_trace.specs.declared.trace.Trace.{Trace}

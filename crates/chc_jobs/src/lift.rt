@@ -12,15 +12,14 @@ mod steps;
 ghost use Rattle.std.specs.Prelude.{◌≡◌, ◌<◌, ◌^◌, length, IfOk, IfErr};
 ghost use Rattle.sha2.specs.Sha256.{sha256};
 ghost use Rattle.chc_trace.specs.Traces.{trace_lines, SaysTrace};
-ghost use Rattle.chc_sorts.specs.Signature.{no_datatypes};
 ghost use Rattle.chc_jobs.specs.Jobs.{IsOnlyText, Finishes, Normalises, IsRefusal, ReadsNone};
 
 use chc_print::script_text;
-use chc_script::{Names, Script};
+use chc_script::Script;
 use chc_sexpr::TextErr;
 use chc_sorts::List;
 use chc_source::{ByteText, NoMemory};
-use chc_state::{State, Step};
+use chc_state::{Names, State, Step};
 use chc_trace::{Trace, digest, trace_text};
 pub use foreign::Foreign;
 pub use model::{LiftErr, Lifted, lift};
@@ -77,9 +76,8 @@ fn clause_count(state: &State) -> u32
     clauses.len() as u32
 }
 
-/// The text of a state without datatypes.
+/// The text of a state.
 fn print(alloc: Global, state: &State, names: &Names) -> Result<ByteText, NoMemory>
-    requires { state.now.sig ≡ no_datatypes }
     ensures { IfOk result (IsOnlyText state.now names.now) }
 {
     let text = script_text(alloc, state, names)?;
@@ -88,7 +86,6 @@ fn print(alloc: Global, state: &State, names: &Names) -> Result<ByteText, NoMemo
 
 /// The text of the state that slices leave of this one, and the trace that leads there.
 fn finish(alloc: Global, script: &[u8], names: &Names, state: State) -> Result<Normalised, NoMemory>
-    requires { state.sig ≡ no_datatypes }
     ensures { IfOk result (λ n. Finishes script.now names.now state n.out n.trace n.before n.after n.steps) }
 {
     let before = clause_count(&state);

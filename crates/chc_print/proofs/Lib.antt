@@ -1,3 +1,7 @@
 pub mod Parts
 pub mod Marks
 pub mod Room
+pub mod ValueTexts
+pub mod Groups
+mod HelperLaws
+mod OneText

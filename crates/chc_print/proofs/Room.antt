@@ -1,4 +1,4 @@
--- A text that grows has room for the numbers of its variables.
+-- How much a text grows by binders.
 use Rattle.std.proofs.Common.{◌≡◌, ℕ, ◌+◌, ◌≤◌, ◌++◌, List, [], ◌∷◌, length, codes, arith, ap, ◌∙◌}
 use Rattle.std.proofs.lemmas.List.{length-append}
 use Rattle.chc_sorts.specs.declared.sort.Sort.{Sort}
@@ -9,13 +9,9 @@ use Rattle.chc_print.specs.Texts.{Names, kind_text, binder_text, binder_texts, q
 longer : (old text new : List ℕ) → new ≡ old ++ text → length new ≡ length old + length text
 longer old text new e = ap (λ (t : List ℕ). length t) e ∙ length-append old text
 
--- what a text had room for, a longer one has
-pub room_after : (old text new : List ℕ) (n : ℕ) → new ≡ old ++ text → n ≤ length old → n ≤ length new
-room_after old text new n e room = let grown = longer old text new e in omega arith
-
--- and what its new part has room for besides
-pub room_for_both : (old text new : List ℕ) (m n : ℕ) → new ≡ old ++ text → m ≤ length old → n ≤ length text → m + n ≤ length new
-room_for_both old text new m n e first second = let grown = longer old text new e in omega arith
+-- a text grows by what is added
+pub grown_by : (old text new : List ℕ) (n : ℕ) → new ≡ old ++ text → n ≤ length text → length old + n ≤ length new
+grown_by old text new n e most = let grown = longer old text new e in omega arith
 
 spaced_longer : (t : List ℕ) (ts : List (List ℕ)) → 1 + length (spaced ts) ≤ length (spaced (t ∷ ts))
 spaced_longer t ts = let all = length-append (codes " " ++ t) (spaced ts) in omega arith

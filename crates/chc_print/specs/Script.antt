@@ -3,14 +3,18 @@ use Rattle.std.specs.Prelude.{◌≡◌, ℕ, ◌+◌, List, [], ◌∷◌, ◌+
 use Rattle.std.specs.List.{concat}
 use Rattle.chc_sorts.specs.declared.sort.Sort.{Sort}
 use Rattle.chc_terms.specs.declared.term.Kind.TheVariants as kind
+use Rattle.chc_terms.specs.declared.term.Term.{Term}
 use Rattle.chc_state.specs.declared.clause.Atom.{Atom}
 use Rattle.chc_state.specs.declared.clause.Clause.{Clause}
 use Rattle.chc_state.specs.declared.clause.PredDecl.{PredDecl}
 use Rattle.chc_state.specs.States.{StateView}
 use Rattle.chc_sexpr.specs.Symbols.{symbol_text}
 use Rattle.chc_print.specs.Prefix.{used_names, IsVariablePrefix}
+use Rattle.chc_print.specs.Helpers.{NamesPredicates}
 use Rattle.chc_sexpr.specs.Writing.{spaced, joined}
-use Rattle.chc_print.specs.Texts.{Names, name_at, applied, sort_text, quantified, term_texts}
+use Rattle.chc_print.specs.Texts.{Names, name_at, applied, sort_text, quantified, term_text, term_texts}
+use Rattle.chc_print.specs.Reach.{state_reach}
+use Rattle.chc_print.specs.Datatypes.{groups_text}
 
 -- an atom
 abbrev pub atom_text : Names → ℕ → Atom → List ℕ
@@ -62,16 +66,29 @@ abbrev pub declarations_text : Names → ℕ → List PredDecl → List ℕ
 declarations_text names p [] = []
 declarations_text names p (d ∷ ds) = live_text names p d ++ declarations_text names (p + 1) ds
 
--- a script without datatypes
+-- the lines of a script: the groups of datatypes that the state reaches, the live predicates, and the clauses
 abbrev pub lines_of_script : Names → StateView → List ℕ
 lines_of_script names s =
-    codes "(set-logic HORN)\n" ++ declarations_text names 0 s.preds ++ concat (map (clause_text names) s.clauses) ++ codes "(check-sat)\n"
+    codes "(set-logic HORN)\n" ++ groups_text names.sig (state_reach s) 0 names.sig.groups ++ declarations_text names 0 s.preds ++ concat (map (clause_text names) s.clauses) ++ codes "(check-sat)\n"
 
--- the names of a script over the state: the predicates' are given, and no definition is named
+-- the names of texts over the state: those of the predicates and of the definitions are given
+abbrev pub names_over : StateView → List (List ℕ) → List (List ℕ) → List ℕ → Names
+names_over s names calls prefix = record { sig = s.sig; preds = names; calls = calls; prefix = prefix }
+
+-- the names of a script over the state, in which no definition is named
 abbrev pub script_names : StateView → List (List ℕ) → List ℕ → Names
-script_names s names prefix = record { sig = s.sig; preds = names; calls = []; prefix = prefix }
+script_names s names prefix = names_over s names [] prefix
 
--- the text is the state's script, with variables named by the prefix that the names in use leave
+-- the text is the state's script, where its predicates have these names and those of helpers, and variables are named by
+-- the prefix that the names in use leave
 abbrev pub IsScriptText : StateView → List (List ℕ) → List ℕ → Type 0
 IsScriptText s names text =
-    (prefix : List ℕ) × IsVariablePrefix (used_names s.sig names) prefix × (text ≡ lines_of_script (script_names s names prefix) s)
+    (prefix : List ℕ) × (all : List (List ℕ)) × IsVariablePrefix (used_names s.sig names) prefix × NamesPredicates s names all
+    × (text ≡ lines_of_script (script_names s all prefix) s)
+
+-- the text is that of a term under so many variables over the state, with predicates and variables named as in the state's
+-- script, and these definitions
+abbrev pub IsTermText : StateView → List (List ℕ) → List (List ℕ) → ℕ → Term → List ℕ → Type 0
+IsTermText s names calls under t text =
+    (prefix : List ℕ) × (all : List (List ℕ)) × IsVariablePrefix (used_names s.sig names) prefix × NamesPredicates s names all
+    × (text ≡ term_text (names_over s all calls prefix) t under)

@@ -1,11 +1,71 @@
 //! The prefix of the variables' names.
 
-ghost use Rattle.std.specs.Prelude.{◌≡◌, ℕ, ◌<◌, ◌≤◌, false, true, length, slice_index_or, IfOk};
-ghost use Rattle.chc_print.specs.Prefix.{begins_numbered, is_taken, marked, takes_marks, marks_from, IsVariablePrefix};
+ghost use Rattle.std.specs.Prelude.{◌≡◌, ℕ, ◌<◌, ◌≤◌, ◌++◌, false, true, map, length, slice_index_or, IfOk, OnOk};
+ghost use Rattle.std.specs.List.{flat_map};
+ghost use Rattle.chc_print.specs.Prefix.{ctor_names, used_names, begins_numbered, is_taken, marked, takes_marks, marks_from, IsVariablePrefix};
 
-use chc_sorts::{List, Name, NoMemory};
+use chc_sorts::{Ctor, Data, Field, List, Name, NoMemory, Sig};
 use chc_source::ByteText;
 use std::alloc::Global;
+
+/// Adds copies of the names.
+pub fn add_names(alloc: Global, used: &mut List<Name>, names: &[Name]) -> Result<(), NoMemory>
+    ensures { OnOk result (used.new ≡ used.old ++ names.now) }
+{
+    for name in names {
+        used.push(name.copy(alloc)?)?;
+    }
+    Ok(())
+}
+
+/// Adds the names of the selectors.
+fn add_selectors(alloc: Global, used: &mut List<Name>, fields: &[Field]) -> Result<(), NoMemory>
+    ensures { OnOk result (used.new ≡ used.old ++ map (λ f. f.name) fields.now) }
+{
+    for field in fields {
+        used.push(field.name.copy(alloc)?)?;
+    }
+    Ok(())
+}
+
+/// Adds the name of the constructor and those of its selectors.
+fn add_constructor(alloc: Global, used: &mut List<Name>, ctor: &Ctor) -> Result<(), NoMemory>
+    ensures { OnOk result (used.new ≡ used.old ++ ctor_names ctor.now) }
+{
+    used.push(ctor.name.copy(alloc)?)?;
+    add_selectors(alloc, used, ctor.fields.as_slice())?;
+    Ok(())
+}
+
+/// Adds the names of the constructors, each before those of its selectors.
+fn add_constructors(alloc: Global, used: &mut List<Name>, ctors: &[Ctor]) -> Result<(), NoMemory>
+    ensures { OnOk result (used.new ≡ used.old ++ flat_map ctor_names ctors.now) }
+{
+    for ctor in ctors {
+        add_constructor(alloc, used, ctor)?;
+    }
+    Ok(())
+}
+
+/// Adds the names of the constructors and selectors of the datatypes.
+fn add_functions(alloc: Global, used: &mut List<Name>, datatypes: &[Data]) -> Result<(), NoMemory>
+    ensures { OnOk result (used.new ≡ used.old ++ flat_map ctor_names (flat_map (λ t. t.ctors) datatypes.now)) }
+{
+    for datatype in datatypes {
+        add_constructors(alloc, used, datatype.ctors.as_slice())?;
+    }
+    Ok(())
+}
+
+/// The names in use: those given, and those of the constructors and selectors.
+pub fn used_names(alloc: Global, sig: &Sig, names: &[Name]) -> Result<List<Name>, NoMemory>
+    ensures { IfOk result (λ used. used ≡ used_names sig.now names.now) }
+{
+    let mut used = List::new(alloc);
+    add_names(alloc, &mut used, names)?;
+    add_functions(alloc, &mut used, sig.datatypes().as_slice())?;
+    Ok(used)
+}
 
 /// How many exclamation marks stand before a digit at the beginning of the bytes, where there is nothing else before it.
 fn marks_before_digit(bytes: &[u8]) -> Option<usize>
@@ -88,11 +148,21 @@ fn marked_prefix(alloc: Global, marks: usize) -> Result<ByteText, NoMemory>
 }
 
 /// What the names of variables begin with beside these names: an `x` with the fewest exclamation marks for which no name
-/// begins so with a digit behind it. The only error is that memory was refused.
-pub fn variable_prefix(alloc: Global, names: &[Name]) -> Result<ByteText, NoMemory>
+/// begins so with a digit behind it.
+pub fn prefix_beside(alloc: Global, names: &[Name]) -> Result<ByteText, NoMemory>
     ensures { IfOk result (λ prefix. IsVariablePrefix names.now prefix) }
 {
     let count = longest(names);
     let taken = taken_marks(alloc, names, count)?;
     marked_prefix(alloc, first_free(taken.as_slice()))
+}
+
+/// What the names of variables begin with beside the names in use, which are the constructors and selectors of the
+/// signature and those given: an `x` with the fewest exclamation marks for which no name in use begins so with a digit
+/// behind it. The only error is that memory was refused.
+pub fn variable_prefix(alloc: Global, sig: &Sig, names: &[Name]) -> Result<ByteText, NoMemory>
+    ensures { IfOk result (λ prefix. IsVariablePrefix (used_names sig.now names.now) prefix) }
+{
+    let used = used_names(alloc, sig, names)?;
+    prefix_beside(alloc, used.as_slice())
 }

@@ -1,23 +1,28 @@
-//! The text of a script.
+//! The texts of scripts, and of terms over a state.
 
-ghost use Rattle.std.specs.Prelude.{◌≡◌, ◌≢◌, ℕ, ◌+◌, ◌≤◌, ◌++◌, ◌↔◌, List, [], codes, map, length, IsTrue, IfOk, OnOk};
+ghost use Rattle.std.specs.Prelude.{◌≡◌, ◌≢◌, ℕ, ◌+◌, ◌≤◌, ◌^◌, ◌++◌, ◌↔◌, List, codes, map, length, IsTrue, IfOk, OnOk};
 ghost use Rattle.std.specs.List.{concat};
 ghost use Rattle.chc_sexpr.specs.Writing.{spaced};
-ghost use Rattle.chc_print.specs.Script.{atom_text, head_text, part_texts, tail_text, matrix_text, closed, clause_text, declaration_text, live_text, declarations_text, lines_of_script, IsScriptText};
+ghost use Rattle.chc_print.specs.Script.{atom_text, head_text, part_texts, tail_text, matrix_text, closed, clause_text, declaration_text, live_text, declarations_text, lines_of_script, IsScriptText, IsTermText};
 
+use crate::datatypes::write_groups;
+use crate::helpers::predicate_names;
 use crate::naming::Naming;
 use crate::prefix::variable_prefix;
-use crate::text::{write_arguments, write_opening, write_quantifier, write_sorts, write_terms};
+use crate::reach::state_reach;
+use crate::text::{
+    write_arguments, write_opening, write_quantifier, write_sorts, write_term, write_terms,
+};
 use chc_sexpr::write_symbol;
 use chc_sorts::{List, Name, NoMemory};
 use chc_source::ByteText;
 use chc_state::{Atom, Clause, PredDecl, State};
-use chc_terms::Kind;
+use chc_terms::{Kind, Term};
 use std::alloc::Global;
 
 /// Writes an atom that stands under so many variables.
-fn write_atom(out: &mut ByteText, names: &Naming, atom: &Atom, under: u64) -> Result<(), NoMemory>
-    requires { under ≤ length out.old }
+fn write_atom(out: &mut ByteText, names: &Naming, atom: &Atom, under: u128) -> Result<(), NoMemory>
+    requires { under ≤ length out.old + 2 ^ 32 }
     ensures { OnOk result (out.new ≡ out.old ++ atom_text names.now under atom.now) }
 {
     write_opening(out, atom.args.as_slice())?;
@@ -31,9 +36,9 @@ fn write_atoms(
     out: &mut ByteText,
     names: &Naming,
     atoms: &[Atom],
-    under: u64,
+    under: u128,
 ) -> Result<(), NoMemory>
-    requires { under ≤ length out.old }
+    requires { under ≤ length out.old + 2 ^ 32 }
     ensures { OnOk result (out.new ≡ out.old ++ spaced (map (atom_text names.now under) atoms.now)) }
 {
     for atom in atoms {
@@ -48,9 +53,9 @@ fn write_head(
     out: &mut ByteText,
     names: &Naming,
     head: &Option<Atom>,
-    under: u64,
+    under: u128,
 ) -> Result<(), NoMemory>
-    requires { under ≤ length out.old }
+    requires { under ≤ length out.old + 2 ^ 32 }
     ensures { OnOk result (out.new ≡ out.old ++ head_text names.now under head.now) }
 {
     match head {
@@ -64,7 +69,7 @@ fn write_parts(out: &mut ByteText, names: &Naming, clause: &Clause) -> Result<()
     requires { length clause.now.vars ≤ length out.old }
     ensures { OnOk result (out.new ≡ out.old ++ spaced (part_texts names.now clause.now)) }
 {
-    let under = clause.vars.len() as u64;
+    let under = clause.vars.len() as u128;
     write_atoms(out, names, clause.body.as_slice(), under)?;
     write_terms(out, names, clause.conj.as_slice(), under)?;
     Ok(())
@@ -105,7 +110,7 @@ fn write_matrix(out: &mut ByteText, names: &Naming, clause: &Clause) -> Result<(
     requires { length clause.now.vars ≤ length out.old }
     ensures { OnOk result (out.new ≡ out.old ++ matrix_text names.now clause.now) }
 {
-    let under = clause.vars.len() as u64;
+    let under = clause.vars.len() as u128;
     if has_parts(clause) {
         out.extend(b"(=>")?;
         write_tail(out, names, clause)?;
@@ -204,27 +209,57 @@ fn text_of(alloc: Global, s: &State, names: &Naming) -> Result<ByteText, NoMemor
 {
     let mut out = ByteText::new(alloc);
     out.extend(b"(set-logic HORN)\n")?;
+    write_groups(&mut out, names.signature(), state_reach(s))?;
     write_declarations(&mut out, names, s.preds().as_slice())?;
     write_clauses(&mut out, names, s.clauses().as_slice())?;
     out.extend(b"(check-sat)\n")?;
     Ok(out)
 }
 
-/// The text of the script of a state, whose predicates have these names by number, live or not.
-/// A predicate without a name is written with the empty one. The text ends with `(check-sat)`. It is the
-/// only text of the state's script. The only error is that memory was refused.
+/// The text of the script of a state, in which these are the names of the script's predicates by number, live or not, and
+/// the later ones are helpers, named `goal!` and a number: the groups of datatypes up to the last one of which the state
+/// uses a datatype, the live predicates, and the clauses. The text ends with `(check-sat)`. It is the only text of the
+/// state's script. The only error is that memory was refused.
 pub fn script_text(alloc: Global, s: &State, names: &List<Name>) -> Result<ByteText, NoMemory>
-    requires { s.now.sig.datatypes ≡ [] }
     ensures text { IfOk result (IsScriptText s.now names.now) }
     ensures only { IfOk result (λ text. (other : List ℕ) → IsScriptText s.now names.now other → other ≡ text) }
 {
-    let prefix = variable_prefix(alloc, names.as_slice())?;
+    let prefix = variable_prefix(alloc, s.sig(), names.as_slice())?;
+    let preds = predicate_names(alloc, s, names.as_slice())?;
     let calls = List::new(alloc);
     let naming = Naming {
         sig: s.sig(),
-        preds: names,
+        preds: &preds,
         calls: &calls,
         prefix: prefix.bytes(),
     };
     text_of(alloc, s, &naming)
+}
+
+/// The text of a term that stands under so many variables over a state, in which these are the names of the script's
+/// predicates by number, live or not, and those of the definitions. Variables and helpers are named as in the text of the
+/// state's script. A definition without a name is written with the empty one. It is the only such text. The only error is
+/// that memory was refused.
+pub fn term_text(
+    alloc: Global,
+    t: &Term,
+    under: u32,
+    calls: &List<Name>,
+    s: &State,
+    names: &List<Name>,
+) -> Result<ByteText, NoMemory>
+    ensures text { IfOk result (IsTermText s.now names.now calls.now under t.now) }
+    ensures only { IfOk result (λ text. (other : List ℕ) → IsTermText s.now names.now calls.now under t.now other → other ≡ text) }
+{
+    let prefix = variable_prefix(alloc, s.sig(), names.as_slice())?;
+    let preds = predicate_names(alloc, s, names.as_slice())?;
+    let naming = Naming {
+        sig: s.sig(),
+        preds: &preds,
+        calls,
+        prefix: prefix.bytes(),
+    };
+    let mut out = ByteText::new(alloc);
+    write_term(&mut out, &naming, t, u128::from(under))?;
+    Ok(out)
 }

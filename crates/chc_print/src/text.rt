@@ -1,6 +1,6 @@
 //! The texts of numbers, sorts, terms and atoms.
 
-ghost use Rattle.std.specs.Prelude.{◌≡◌, ◌+◌, ◌≤◌, ◌++◌, codes, decimal, map, length, OnOk};
+ghost use Rattle.std.specs.Prelude.{◌≡◌, ◌+◌, ◌^◌, ◌≤◌, ◌++◌, codes, decimal, map, length, OnOk};
 ghost use Rattle.chc_sexpr.specs.Symbols.{symbol_text};
 ghost use Rattle.chc_sexpr.specs.Writing.{spaced, joined};
 ghost use Rattle.chc_print.specs.Texts.{ctor_name, number_text, truth_text, sort_text, op_text, kind_text, variable_text, binder_text, binder_texts, quantifier_text, opening, closing, term_text, term_texts};
@@ -21,7 +21,7 @@ fn write_decimal(out: &mut ByteText, n: u128) -> Result<(), NoMemory>
 }
 
 /// Writes a number, a negative one as the minus of its magnitude.
-fn write_number(out: &mut ByteText, n: i128) -> Result<(), NoMemory>
+pub fn write_number(out: &mut ByteText, n: i128) -> Result<(), NoMemory>
     ensures { OnOk result (out.new ≡ out.old ++ number_text n) }
 {
     if n < 0 {
@@ -35,7 +35,7 @@ fn write_number(out: &mut ByteText, n: i128) -> Result<(), NoMemory>
 }
 
 /// Writes a truth value.
-fn write_truth(out: &mut ByteText, b: bool) -> Result<(), NoMemory>
+pub fn write_truth(out: &mut ByteText, b: bool) -> Result<(), NoMemory>
     ensures { OnOk result (out.new ≡ out.old ++ truth_text b) }
 {
     if b {
@@ -135,16 +135,16 @@ fn write_op(out: &mut ByteText, sig: &Sig, op: &Op) -> Result<(), NoMemory>
 }
 
 /// Writes a variable.
-fn write_variable(out: &mut ByteText, names: &Naming, i: u64) -> Result<(), NoMemory>
+fn write_variable(out: &mut ByteText, names: &Naming, i: u128) -> Result<(), NoMemory>
     ensures { OnOk result (out.new ≡ out.old ++ variable_text names.now i) }
 {
     out.extend(names.variable_prefix())?;
-    write_decimal(out, i as u128)?;
+    write_decimal(out, i)?;
     Ok(())
 }
 
 /// Writes the binder of a variable.
-fn write_binder(out: &mut ByteText, names: &Naming, i: u64, sort: &Sort) -> Result<(), NoMemory>
+fn write_binder(out: &mut ByteText, names: &Naming, i: u128, sort: &Sort) -> Result<(), NoMemory>
     ensures { OnOk result (out.new ≡ out.old ++ binder_text names.now i sort.now) }
 {
     out.push(b'(')?;
@@ -155,24 +155,24 @@ fn write_binder(out: &mut ByteText, names: &Naming, i: u64, sort: &Sort) -> Resu
     Ok(())
 }
 
-/// The number `count` after `i`. The text has as many bytes at least, since a binder of each variable
-/// stands in it, so the sum fits.
-fn number_after(out: &ByteText, i: u64, count: u64) -> u64
-    requires { i + count ≤ length out.now }
+/// The number `count` after `i`. At most 2^32 variables aren't bound in the text, and of each other one the text has a
+/// binder, so the sum fits.
+fn number_after(out: &ByteText, i: u128, count: usize) -> u128
+    requires { i + count ≤ length out.now + 2 ^ 32 }
     ensures { result ≡ i + count }
 {
     let _bytes = out.len();
-    i + count
+    i + count as u128
 }
 
 /// Writes the binders of variables from the number `from` on, with a space before each.
 fn write_more_binders(
     out: &mut ByteText,
     names: &Naming,
-    from: u64,
+    from: u128,
     sorts: &[Sort],
 ) -> Result<(), NoMemory>
-    requires { from ≤ length out.old }
+    requires { from ≤ length out.old + 2 ^ 32 }
     ensures { OnOk result (out.new ≡ out.old ++ spaced (binder_texts names.now from sorts.now)) }
 {
     let mut i = from;
@@ -184,17 +184,17 @@ fn write_more_binders(
     Ok(())
 }
 
-/// Writes the binders of variables of these sorts, numbered from `from` on, with a space between each two. The text has
-/// as many bytes then as the number of the last variable says. The only error is that memory was refused.
+/// Writes the binders of variables of these sorts, numbered from `from` on, with a space between each two. The text
+/// grows by a byte at least for each. The only error is that memory was refused.
 pub fn write_binders(
     out: &mut ByteText,
     names: &Naming,
-    from: u64,
+    from: u128,
     sorts: &[Sort],
 ) -> Result<(), NoMemory>
-    requires { from ≤ length out.old }
+    requires { from ≤ length out.old + 2 ^ 32 }
     ensures text { OnOk result (out.new ≡ out.old ++ joined (binder_texts names.now from sorts.now)) }
-    ensures room { OnOk result (from + length sorts.now ≤ length out.new) }
+    ensures room { OnOk result (length out.old + length sorts.now ≤ length out.new) }
 {
     write_binder_texts(out, names, from, sorts)?;
     Ok(())
@@ -204,10 +204,10 @@ pub fn write_binders(
 fn write_binder_texts(
     out: &mut ByteText,
     names: &Naming,
-    from: u64,
+    from: u128,
     sorts: &[Sort],
 ) -> Result<(), NoMemory>
-    requires { from ≤ length out.old }
+    requires { from ≤ length out.old + 2 ^ 32 }
     ensures { OnOk result (out.new ≡ out.old ++ joined (binder_texts names.now from sorts.now)) }
 {
     match sorts {
@@ -231,18 +231,18 @@ fn write_kind(out: &mut ByteText, kind: Kind) -> Result<(), NoMemory>
     }
 }
 
-/// Writes the beginning of a quantifier that binds variables from the number `from` on. The text has as
-/// many bytes then as the number of the last variable says.
+/// Writes the beginning of a quantifier that binds variables from the number `from` on. The text grows by a byte at least
+/// for each.
 pub fn write_quantifier(
     out: &mut ByteText,
     names: &Naming,
     kind: Kind,
-    from: u64,
+    from: u128,
     sorts: &[Sort],
 ) -> Result<(), NoMemory>
-    requires { from ≤ length out.old }
+    requires { from ≤ length out.old + 2 ^ 32 }
     ensures text { OnOk result (out.new ≡ out.old ++ quantifier_text names.now kind from sorts.now) }
-    ensures room { OnOk result (from + length sorts.now ≤ length out.new) }
+    ensures room { OnOk result (length out.old + length sorts.now ≤ length out.new) }
 {
     write_quantifier_text(out, names, kind, from, sorts)?;
     Ok(())
@@ -253,10 +253,10 @@ fn write_quantifier_text(
     out: &mut ByteText,
     names: &Naming,
     kind: Kind,
-    from: u64,
+    from: u128,
     sorts: &[Sort],
 ) -> Result<(), NoMemory>
-    requires { from ≤ length out.old }
+    requires { from ≤ length out.old + 2 ^ 32 }
     ensures { OnOk result (out.new ≡ out.old ++ quantifier_text names.now kind from sorts.now) }
 {
     out.push(b'(')?;
@@ -268,7 +268,7 @@ fn write_quantifier_text(
 }
 
 /// Writes the parenthesis that stands before a head with these arguments, if any.
-pub fn write_opening(out: &mut ByteText, arguments: &[Term]) -> Result<(), NoMemory>
+pub fn write_opening<T>(out: &mut ByteText, arguments: &[T]) -> Result<(), NoMemory>
     ensures { OnOk result (out.new ≡ out.old ++ opening arguments.now) }
 {
     match arguments {
@@ -278,7 +278,7 @@ pub fn write_opening(out: &mut ByteText, arguments: &[Term]) -> Result<(), NoMem
 }
 
 /// Writes the parenthesis that stands after these arguments, if any.
-fn write_closing(out: &mut ByteText, arguments: &[Term]) -> Result<(), NoMemory>
+pub fn write_closing<T>(out: &mut ByteText, arguments: &[T]) -> Result<(), NoMemory>
     ensures { OnOk result (out.new ≡ out.old ++ closing arguments.now) }
 {
     match arguments {
@@ -287,20 +287,20 @@ fn write_closing(out: &mut ByteText, arguments: &[Term]) -> Result<(), NoMemory>
     }
 }
 
-/// Writes a term that stands under so many variables; a quantifier in it binds the next numbers. The text has at least
-/// as many bytes as there are variables, which their binders take. The only error is that memory was refused.
+/// Writes a term that stands under so many variables; a quantifier in it binds the next numbers. All but 2^32 of the
+/// variables have their binders in the text. The only error is that memory was refused.
 #[cycle(terms)]
 pub fn write_term(
     out: &mut ByteText,
     names: &Naming,
     term: &Term,
-    under: u64,
+    under: u128,
 ) -> Result<(), NoMemory>
-    requires { under ≤ length out.old }
+    requires { under ≤ length out.old + 2 ^ 32 }
     ensures { OnOk result (out.new ≡ out.old ++ term_text names.now term.now under) }
 {
     match term {
-        Term::Var(i) => write_variable(out, names, *i as u64)?,
+        Term::Var(i) => write_variable(out, names, u128::from(*i))?,
         Term::Num(n) => write_number(out, *n)?,
         Term::Lit(b) => write_truth(out, *b)?,
         Term::App(op, arguments) => {
@@ -315,7 +315,7 @@ pub fn write_term(
         }
         Term::Quant(kind, sorts, body) => {
             write_quantifier(out, names, *kind, under, sorts.as_slice())?;
-            let inner = number_after(out, under, sorts.len() as u64);
+            let inner = number_after(out, under, sorts.len());
             write_term(out, names, body.get(), inner)?;
             out.push(b')')?;
         }
@@ -334,9 +334,9 @@ pub fn write_terms(
     out: &mut ByteText,
     names: &Naming,
     terms: &[Term],
-    under: u64,
+    under: u128,
 ) -> Result<(), NoMemory>
-    requires { under ≤ length out.old }
+    requires { under ≤ length out.old + 2 ^ 32 }
     ensures { OnOk result (out.new ≡ out.old ++ spaced (term_texts names.now under terms.now)) }
 {
     for term in terms {
@@ -352,9 +352,9 @@ pub fn write_arguments(
     out: &mut ByteText,
     names: &Naming,
     arguments: &[Term],
-    under: u64,
+    under: u128,
 ) -> Result<(), NoMemory>
-    requires { under ≤ length out.old }
+    requires { under ≤ length out.old + 2 ^ 32 }
     ensures { OnOk result (out.new ≡ out.old ++ spaced (term_texts names.now under arguments.now) ++ closing arguments.now) }
 {
     write_terms(out, names, arguments, under)?;

@@ -4,9 +4,9 @@ use Rattle.std.specs.List.{list_any}
 use Rattle.chc_sorts.specs.declared.sort.Sort.{Sort}
 use Rattle.chc_sorts.specs.declared.op.Op.{Op}
 use Rattle.chc_terms.specs.declared.term.Kind.{Kind}
-use Rattle.chc_terms.specs.declared.term.Term.{Term, Term-F, para-Term, para-roll-Term}
+use Rattle.chc_terms.specs.declared.term.Term.{Term, Term-F, para-roll-Term}
 use Rattle.chc_terms.specs.declared.term.Term.TheVariants.{Var, Num, Lit, App, Pred, Quant, Call, rolls-Var, rolls-Num, rolls-Lit, rolls-App, rolls-Pred, rolls-Quant, rolls-Call}
-use Rattle.chc_script.specs.Marks.{mentions, marked, is_within, is_below}
+use Rattle.chc_script.specs.Marks.{mentions}
 use Rattle.chc_script.specs.Horn.{Reading, reading, collect_step, collected, readings, whole_read, literal_read, atom_read, way_of, way_read}
 use Rattle.chc_script.specs.declared.horn.parts.Parts.{Parts}
 use Rattle.chc_script.specs.declared.horn.side.Side.{Side}

@@ -1,142 +1,40 @@
 -- An assertion and its clause are true together.
-use Rattle.std.proofs.Common.{◌≡◌, ◌⊎◌, inl, inr, ℕ, Bool, true, false, cond, ◌&&◌, List, [], ◌∷◌, ◌++◌, map, Option, Some, None, Result, Ok, Err, slice_get, refl, ap, sym, subst, ◌∙◌}
-use Rattle.std.specs.Prelude.{IsTrue}
-use Rattle.std.specs.List.{AllByRecursion, list_all}
-use Rattle.std.proofs.lemmas.Bool.{and_parts, and_from, false≢true}
+use Rattle.std.proofs.Common.{◌≡◌, ◌⊎◌, inl, inr, Bool, true, false, List, [], ◌∷◌, Option, Some, None, slice_get, refl, ap, sym, subst, ◌∙◌}
+use Rattle.std.specs.List.{list_all}
+use Rattle.std.proofs.lemmas.Bool.{and_parts, false≢true}
 use Rattle.std.proofs.lemmas.List.Folds.{list_all-map}
 use Rattle.std.proofs.lemmas.Option.{none-some}
 use Rattle.chc_sorts.specs.declared.sort.Sort.{Sort}
 use Rattle.chc_sorts.specs.declared.sort.Sort.TheVariants as sort
-use Rattle.chc_sorts.specs.declared.op.Op.{Op}
-use Rattle.chc_sorts.specs.declared.op.Op.TheVariants as op
-use Rattle.chc_sorts.specs.Sorts.{same_sorts}
 use Rattle.chc_values.specs.declared.value.Value.{Value}
 use Rattle.chc_values.specs.declared.value.Value.TheVariants as value
 use Rattle.chc_values.specs.declared.world.WorldEntry.{WorldEntry}
-use Rattle.chc_values.specs.Values.{IsOf, AreOf}
+use Rattle.chc_values.specs.Values.{AreOf}
 use Rattle.chc_values.specs.Worlds.{IsWorld}
-use Rattle.chc_terms.specs.declared.term.Kind.{Kind}
 use Rattle.chc_terms.specs.declared.term.Term.{Term}
-use Rattle.chc_terms.specs.declared.term.Term.TheVariants as term
 use Rattle.chc_terms.specs.Has.{TermHas, EachHas, AllHave, SomeHas, silent}
-use Rattle.chc_terms.specs.Laws.{Means}
-use Rattle.chc_terms.specs.Sorted.{Context, sort_of, sorts_of, when, is_plain, is_unquantified}
+use Rattle.chc_terms.specs.Sorted.{sort_of, sorts_of, is_plain}
 use Rattle.chc_terms.proofs.Contexts.{Extends, sort_kept}
-use Rattle.chc_terms.proofs.ForOthers.{one_value, one_value_under_any, some_value, same_meaning, same_meanings, truth_value, nothing_meant, one_list, list_of_sorts}
+use Rattle.chc_terms.proofs.ForOthers.{one_value_under_any, some_value_under_any, same_meaning, same_meanings, truth_value, nothing_meant, one_list, list_of_sorts}
 use Rattle.chc_terms.proofs.HasLaws.{Has-Pred}
-use Rattle.chc_terms.proofs.Induction.{term_ind}
-use Rattle.chc_terms.proofs.OperatorShapes.{when_some}
 use Rattle.chc_terms.proofs.SameSort.{same_from_test, same_sorts_from_test}
-use Rattle.chc_terms.proofs.SortSteps.{sorts_of_more, app_sorts, quant_sorts}
 use Rattle.chc_state.specs.declared.clause.Atom.{Atom}
 use Rattle.chc_state.specs.declared.clause.Clause.{Clause}
 use Rattle.chc_state.specs.declared.defs.Defs.{Defs}
 use Rattle.chc_state.specs.States.{StateView, head_all}
-use Rattle.chc_state.specs.Sorts.{clause_context, is_sort, are_sorts, is_condition, is_sorted_atom, is_sorted_clause, positions}
+use Rattle.chc_state.specs.Sorts.{clause_context, is_sort, are_sorts, is_condition, is_sorted_atom, positions}
 use Rattle.chc_state.specs.Meaning.{In, AtomHolds, Fires}
-use Rattle.chc_state.specs.Definitions.{PredMeans, DefMeans, HasUnder, Says, HeadHolds, IsTrueUnder, AssertTrue, Decided, Defines}
+use Rattle.chc_state.specs.Definitions.{PredMeans, DefMeans, HasUnder, Says, HeadHolds, IsTrueUnder, AssertTrue}
 use Rattle.chc_state.proofs.Defined.{defined_means, all_live_total}
-use Rattle.chc_script.specs.Horn.{Prefix, left, binds, prefix_of, stripping, operator_stripped, collected, no_parts, closed_over, closed, clause_behind, clause_of}
-use Rattle.chc_script.specs.HornLaws.{script_context, context_under, is_single, SaysClause, MeansUnder, HasValues, ClauseIsSorted, ClauseOfTrue, TrueOfClause, KeepsTruth}
+use Rattle.chc_script.specs.Horn.{Prefix, prefix_of, no_parts, closed_over}
+use Rattle.chc_script.specs.HornLaws.{script_context, context_under, SaysClause, MeansUnder, HasValues, ClauseOfTrue, TrueOfClause, KeepsTruth}
 use Rattle.chc_script.specs.declared.horn.parts.Parts.{Parts}
-use Rattle.chc_script.specs.declared.horn.refusal.HornErr.{HornErr}
-use Rattle.chc_script.specs.declared.horn.refusal.HornErr.TheVariants as refusal
 use Rattle.chc_script.specs.declared.horn.side.Side.{Side}
 use Rattle.chc_script.specs.declared.horn.side.Side.TheVariants as side
-use Rattle.chc_script.proofs.PrefixLaws.{prefix-Var, prefix-Num, prefix-Lit, prefix-App, prefix-Pred, prefix-Quant, prefix-Call}
-use Rattle.chc_script.proofs.HornSteps.{same_made, refused_made, true_not_false, holding, failing, atom_term, AtomUnder, HeadIs, Met, Broken, TermStep, collected_step}
+use Rattle.chc_script.proofs.HornSteps.{true_not_false, holding, failing, atom_term, HeadIs, Met, Broken, TermStep, collected_step}
 use Rattle.chc_script.proofs.Stripped.{Stripped, strips}
-use Rattle.chc_script.proofs.SortedParts.{AreSorted, collected_sorted}
-
--- of what a clause was made
-pub record Made (assertion : Term) (clause : Clause) : Type 0 where
-  pub parts : Parts
-  pub unquantified : is_unquantified (prefix_of assertion side.Concluded []).rest ≡ true
-  pub found : collected (prefix_of assertion side.Concluded []).rest (prefix_of assertion side.Concluded []).side no_parts ≡ Ok parts
-  pub is : closed_over (prefix_of assertion side.Concluded []).vars parts ≡ clause
-
-made_of : (assertion : Term) (clause : Clause) → clause_of assertion ≡ Ok clause → Made assertion clause
-made_of assertion clause h = by_test (is_unquantified p.rest) refl h
-  where
-    p : Prefix
-    p = prefix_of assertion side.Concluded []
-
-    by_parts : is_unquantified (prefix_of assertion side.Concluded []).rest ≡ true → (r : Result Parts HornErr)
-        → collected (prefix_of assertion side.Concluded []).rest (prefix_of assertion side.Concluded []).side no_parts ≡ r
-        → closed (prefix_of assertion side.Concluded []).vars r ≡ Ok clause → Made assertion clause
-    by_parts u (Err e) f g = absurd (refused_made e clause g)
-    by_parts u (Ok parts) f g = record { parts = parts; unquantified = u; found = f; is = same_made (closed_over (prefix_of assertion side.Concluded []).vars parts) clause g }
-
-    by_test : (b : Bool) → is_unquantified (prefix_of assertion side.Concluded []).rest ≡ b
-        → cond b (closed (prefix_of assertion side.Concluded []).vars (collected (prefix_of assertion side.Concluded []).rest (prefix_of assertion side.Concluded []).side no_parts)) (Err refusal.QuantInside) ≡ Ok clause
-        → Made assertion clause
-    by_test true u f = by_parts u (collected (prefix_of assertion side.Concluded []).rest (prefix_of assertion side.Concluded []).side no_parts) refl f
-    by_test false u f = absurd (refused_made refusal.QuantInside clause f)
-
--- what is left of a truth value is one
-module _ (cx : Context) where
-  abbrev IsTruth : Prefix → Type 0
-  IsTruth p = sort_of cx p.rest p.vars ≡ Some sort.Bool
-
-  abbrev LeavesTruth : Term → Type 0
-  LeavesTruth t = (s : Side) (vars : List Sort) → sort_of cx t vars ≡ Some sort.Bool → IsTruth (prefix_of t s vars)
-
-  operand_sort : (t : Term) (vars : List Sort) → sort_of cx (term.App op.Not (t ∷ [])) vars ≡ Some sort.Bool → sort_of cx t vars ≡ Some sort.Bool
-  operand_sort t vars h =
-      let g = app_sorts cx vars op.Not (t ∷ []) sort.Bool h in
-      let m = sorts_of_more cx vars t [] g.sorts g.each in
-      let same : g.sorts ≡ sort.Bool ∷ [] = same_sorts_from_test g.sorts (sort.Bool ∷ []) (when_some (same_sorts g.sorts (sort.Bool ∷ [])) sort.Bool sort.Bool g.result).0 in
-      m.first_of ∙ ap Some (first_same m.first m.others (sym m.sorts_are ∙ same))
-    where
-      first_same : (s : Sort) (ss : List Sort) → s ∷ ss ≡ sort.Bool ∷ [] → s ≡ sort.Bool
-      first_same s ss e = cc
-
-  negation_leaves : (ts : List Term) → AllByRecursion LeavesTruth ts → (vars : List Sort) → sort_of cx (term.App op.Not ts) vars ≡ Some sort.Bool
-      → IsTruth (operator_stripped op.Not side.Concluded (map (λ t. (t, stripping t)) ts) (term.App op.Not ts) side.Concluded vars)
-  negation_leaves [] f vars h = h
-  negation_leaves (t ∷ u ∷ ts) f vars h = h
-  negation_leaves (t ∷ []) f vars h = f.0 side.Assumed vars (operand_sort t vars h)
-
-  app_leaves : (o : Op) (s : Side) (ts : List Term) → AllByRecursion LeavesTruth ts → (vars : List Sort) → sort_of cx (term.App o ts) vars ≡ Some sort.Bool
-      → IsTruth (operator_stripped o s (map (λ t. (t, stripping t)) ts) (term.App o ts) s vars)
-  app_leaves op.Not side.Concluded ts f vars h = negation_leaves ts f vars h
-  app_leaves o s ts f vars h = h
-
-  quant_leaves : (k : Kind) (sorts : List Sort) (t : Term) → LeavesTruth t → LeavesTruth (term.Quant k sorts t)
-  quant_leaves k sorts t f s vars h = subst IsTruth (sym (prefix-Quant s vars k sorts t)) (by_test (binds k s))
-    where
-      by_test : (b : Bool) → IsTruth (cond b (prefix_of t s (vars ++ sorts)) (left (term.Quant k sorts t) s vars))
-      by_test true = f s (vars ++ sorts) (quant_sorts cx vars k sorts t sort.Bool h).0
-      by_test false = h
-
-  leaves_truth : (t : Term) → LeavesTruth t
-  leaves_truth = term_ind LeavesTruth (record {
-    of_var = λ i s vars h. subst IsTruth (sym (prefix-Var s vars i)) h;
-    of_num = λ n s vars h. subst IsTruth (sym (prefix-Num s vars n)) h;
-    of_lit = λ b s vars h. subst IsTruth (sym (prefix-Lit s vars b)) h;
-    of_app = λ o ts f s vars h. subst IsTruth (sym (prefix-App s vars o ts)) (app_leaves o s ts f vars h);
-    of_pred = λ p ts f s vars h. subst IsTruth (sym (prefix-Pred s vars p ts)) h;
-    of_quant = quant_leaves;
-    of_call = λ k ts f s vars h. subst IsTruth (sym (prefix-Call s vars k ts)) h;
-  })
-
--- the parts of the clause of a well-sorted assertion
-parts_sorted : (s : StateView) (assertion : Term) (clause : Clause) → SaysClause s assertion clause → (m : Made assertion clause)
-    → AreSorted s.sig s.preds (prefix_of assertion side.Concluded []).vars m.parts
-parts_sorted s assertion clause h m =
-    let p = prefix_of assertion side.Concluded [] in
-    collected_sorted s.sig s.preds p.vars p.rest p.side no_parts m.parts m.found (leaves_truth (script_context s.sig s.preds) assertion side.Concluded [] h.sorted) m.unquantified
-    (record { conditions = refl; singles = refl; atoms = refl; head = refl })
-
-pub clause_is_sorted : ClauseIsSorted
-clause_is_sorted s assertion clause h =
-    let m = made_of assertion clause h.says in
-    let vars = (prefix_of assertion side.Concluded []).vars in
-    let sorted = parts_sorted s assertion clause h m in
-    let conditions = list_all (is_condition s.sig vars) m.parts.conj in
-    let atoms = list_all (is_sorted_atom s.sig (positions s.preds) vars) m.parts.body in
-    subst (λ (c : Clause). IsTrue (is_sorted_clause s.sig (positions s.preds) c) × IsTrue (list_all is_single c.conj)) m.is
-    (and_from (conditions && atoms) (head_all (is_sorted_atom s.sig (positions s.preds) vars) m.parts.head) (and_from conditions atoms sorted.conditions sorted.atoms) sorted.head, sorted.singles)
+use Rattle.chc_script.proofs.SortedParts.{AreSorted}
+use Rattle.chc_script.proofs.ClauseForm.{Made, made_of, leaves_truth, parts_sorted}
 
 module _ (s : StateView) (w : List WorldEntry) (d : Defs) (world : IsWorld s.sig w) (means : MeansUnder s w d) where
   abbrev Under : Term → List Value → Value → Type 0
@@ -337,13 +235,13 @@ pub true_of_clause : TrueOfClause
 true_of_clause s w d world means values assertion clause says h = assertion_true s w d world means assertion clause says values h
 
 pub keeps_truth : KeepsTruth
-keeps_truth s w d world none defines assertion clause says =
-    let means : MeansUnder s w d = defined_means one_value s w d world none defines in
+keeps_truth s w d world founded defines assertion clause says =
+    let means : MeansUnder s w d = defined_means one_value_under_any s w d world defines in
     record {
       clause_true = λ h. clause_of_true s w d world means assertion clause says h;
       assertion_true = λ decided live h.
           let total = all_live_total s w d defines decided live in
           true_of_clause s w d world means
-          (record { valued = λ t vars r sorted u env a. some_value (context_under s d) w (PredMeans s.sig w d) (DefMeans s.sig w d) world none means total t vars r sorted u env a })
+          (record { valued = λ t vars r sorted u env a. some_value_under_any (context_under s d) w (PredMeans s.sig w d) (DefMeans s.sig w d) world founded means total t vars r sorted u env a })
           assertion clause says h;
     }

@@ -1,7 +1,6 @@
 -- What is read of a term and the term are true together: under one assignment, step by step.
-use Rattle.std.proofs.Common.{◌≡◌, ◌⊎◌, inl, inr, ℕ, ℤ, Bool, true, false, not, List, [], ◌∷◌, ◌++◌, Option, Some, None, Result, Ok, Err, refl, ap, sym, subst, ◌∙◌}
+use Rattle.std.proofs.Common.{◌≡◌, ◌⊎◌, inl, inr, ℕ, Bool, true, false, not, List, [], ◌∷◌, ◌++◌, Option, Some, None, Result, Ok, Err, refl, ap, sym, subst, ◌∙◌}
 use Rattle.std.specs.List.{AllByRecursion, list_any}
-use Rattle.chc_sorts.specs.declared.sort.Sort.{Sort}
 use Rattle.chc_sorts.specs.declared.op.Op.{Op}
 use Rattle.chc_sorts.specs.declared.op.Op.TheVariants as op
 use Rattle.chc_sorts.specs.Signature.{Signature}
@@ -15,13 +14,11 @@ use Rattle.chc_terms.proofs.HasLaws.{Has-Lit, Has-App}
 use Rattle.chc_terms.proofs.Induction.{term_ind}
 use Rattle.chc_state.specs.declared.clause.Atom.{Atom}
 use Rattle.chc_script.specs.Marks.{mentions}
-use Rattle.chc_script.specs.Horn.{collected, readings, each, and_more, way_of, way_read, whole_read, literal_read, atom_read, with_condition, with_head, with_atom}
+use Rattle.chc_script.specs.Horn.{collected, readings, each, and_more, way_of, way_read, whole_read, literal_read, atom_read, with_condition, with_head}
 use Rattle.chc_script.specs.declared.horn.parts.Parts.{Parts}
 use Rattle.chc_script.specs.declared.horn.refusal.HornErr.{HornErr}
 use Rattle.chc_script.specs.declared.horn.side.Side.{Side}
 use Rattle.chc_script.specs.declared.horn.side.Side.TheVariants as side
-use Rattle.chc_script.specs.declared.horn.side.Way.{Way}
-use Rattle.chc_script.specs.declared.horn.side.Way.TheVariants as way
 use Rattle.chc_script.proofs.Collected.{collected-Var, collected-Num, collected-Lit, collected-App, collected-Pred, collected-Quant, collected-Call}
 
 pub same_made : {X : Type 0} (a b : X) → ◌≡◌ {A = Result X HornErr} (Ok a) (Ok b) → a ≡ b

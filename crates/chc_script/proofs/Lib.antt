@@ -1,12 +1,3 @@
-pub mod Ints
-pub mod Kept
-pub mod Made
-pub mod MadeLaws
-pub mod NameLaws
-pub mod Numbers
-pub mod Readings
-pub mod Tables
-pub mod TermLaws
 pub mod Collected
 pub mod HornTests
 pub mod MarkLaws
@@ -14,6 +5,8 @@ pub mod PrefixLaws
 pub mod HornSteps
 pub mod Stripped
 pub mod SortedParts
+pub mod FittingParts
+pub mod ClauseForm
 pub mod HornKept
 pub mod FrontLaws
 pub mod TermSizes

@@ -1,9 +1,9 @@
 -- The quantifiers in front of a term, at each variant.
-use Rattle.std.proofs.Common.{◌≡◌, ℕ, ℤ, List, [], ◌∷◌, ◌++◌, map, Bool, cond, refl, ap, sym, ◌∙◌}
+use Rattle.std.proofs.Common.{◌≡◌, ℕ, ℤ, List, ◌++◌, map, Bool, cond, ap, sym, ◌∙◌}
 use Rattle.chc_sorts.specs.declared.sort.Sort.{Sort}
 use Rattle.chc_sorts.specs.declared.op.Op.{Op}
 use Rattle.chc_terms.specs.declared.term.Kind.{Kind}
-use Rattle.chc_terms.specs.declared.term.Term.{Term, Term-F, para-Term, para-roll-Term}
+use Rattle.chc_terms.specs.declared.term.Term.{Term, Term-F, para-roll-Term}
 use Rattle.chc_terms.specs.declared.term.Term.TheVariants.{Var, Num, Lit, App, Pred, Quant, Call, rolls-Var, rolls-Num, rolls-Lit, rolls-App, rolls-Pred, rolls-Quant, rolls-Call}
 use Rattle.chc_script.specs.Horn.{Stripping, stripping, prefix_step, prefix_of, left, binds, operator_stripped}
 use Rattle.chc_script.specs.declared.horn.side.Side.{Side}

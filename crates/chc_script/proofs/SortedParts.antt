@@ -1,38 +1,38 @@
 -- The clause of a well-sorted assertion is well sorted.
-use Rattle.std.proofs.Common.{◌≡◌, ℕ, ℤ, Bool, true, false, not, cond, ◌&&◌, ◌||◌, List, [], ◌∷◌, ◌++◌, map, Option, Some, None, Result, Ok, Err, slice_get, option_map, option_and_then, refl, ap, sym, subst, ◌∙◌}
+use Rattle.std.proofs.Common.{◌≡◌, ℕ, Bool, true, false, List, [], ◌∷◌, ◌++◌, map, Option, Some, None, Ok, slice_get, option_map, option_and_then, refl, ap, sym, subst, ◌∙◌}
 use Rattle.std.specs.List.{AllByRecursion, list_all, list_any}
 use Rattle.std.proofs.lemmas.Bool.{and_parts, and_from, or_parts, true≢false, false≢true}
-use Rattle.std.proofs.lemmas.Option.{none-some, same_Some}
+use Rattle.std.proofs.lemmas.Option.{none-some}
 use Rattle.chc_sorts.specs.declared.sort.Sort.{Sort}
 use Rattle.chc_sorts.specs.declared.sort.Sort.TheVariants as sort
 use Rattle.chc_sorts.specs.declared.op.Op.{Op}
 use Rattle.chc_sorts.specs.declared.op.Op.TheVariants as op
 use Rattle.chc_sorts.specs.Signature.{Signature}
 use Rattle.chc_sorts.specs.Sorts.{same_sort, same_sorts}
-use Rattle.chc_terms.specs.declared.term.Kind.{Kind}
 use Rattle.chc_terms.specs.declared.term.Term.{Term, Term-F}
 use Rattle.chc_terms.specs.declared.term.Term.TheVariants as term
-use Rattle.chc_terms.specs.Sorted.{Context, sort_of, sorts_of, op_sort, truth_at, are_truths, when, is_plain, is_unquantified}
+use Rattle.chc_terms.specs.Sorted.{Context, sort_of, sorts_of, op_sort, are_truths, when, is_plain, is_unquantified}
 use Rattle.chc_terms.proofs.Induction.{term_ind}
 use Rattle.chc_terms.proofs.OperatorShapes.{when_some}
 use Rattle.chc_terms.proofs.SameSort.{same_itself, same_from_test, same_sorts_itself, same_sorts_from_test}
 use Rattle.chc_terms.proofs.SortLaws.{sort_of-Var, sort_of-Num, sort_of-Lit, sort_of-App, is_plain-Var, is_plain-Num, is_plain-Lit, is_plain-App, is_unquantified-App, is_unquantified-Pred, is_unquantified-Quant}
-use Rattle.chc_terms.proofs.SortSteps.{sorts_of_more, app_sorts, pred_sorts, call_sorts, quant_sorts}
+use Rattle.chc_terms.proofs.SortSteps.{sorts_of_more, app_sorts, pred_sorts, call_sorts}
 use Rattle.chc_state.specs.declared.clause.Atom.{Atom}
 use Rattle.chc_state.specs.declared.clause.PredDecl.{PredDecl}
 use Rattle.chc_state.specs.States.{head_all}
 use Rattle.chc_state.specs.Sorts.{clause_context, is_sort, are_sorts, is_condition, is_sorted_atom, positions}
+use Rattle.chc_state.specs.WellFormed.{is_part, is_part_level}
 use Rattle.chc_script.specs.Marks.{mentions}
 use Rattle.chc_script.specs.Horn.{collected, readings, each, way_of, way_read, whole_read, literal_read, atom_read, with_condition, with_head}
-use Rattle.chc_script.specs.HornLaws.{script_context, is_single, is_single_level}
+use Rattle.chc_script.specs.HornLaws.{script_context}
 use Rattle.chc_script.specs.declared.horn.parts.Parts.{Parts}
 use Rattle.chc_script.specs.declared.horn.side.Side.{Side}
 use Rattle.chc_script.specs.declared.horn.side.Side.TheVariants as side
 use Rattle.chc_script.proofs.Collected.{collected-Var, collected-Num, collected-Lit, collected-App, collected-Pred, collected-Quant, collected-Call}
-use Rattle.chc_script.proofs.MarkLaws.{mentions-App, mentions-Pred, mentions-Quant, mentions-Call}
+use Rattle.chc_script.proofs.MarkLaws.{mentions-App, mentions-Pred}
 use Rattle.chc_script.proofs.HornSteps.{same_made, refused_made, made_before}
 
-all_appended : {X : Type 0} (test : X → Bool) (xs : List X) (x : X) → list_all test xs ≡ true → test x ≡ true → list_all test (xs ++ x ∷ []) ≡ true
+pub all_appended : {X : Type 0} (test : X → Bool) (xs : List X) (x : X) → list_all test xs ≡ true → test x ≡ true → list_all test (xs ++ x ∷ []) ≡ true
 all_appended test [] x h k = and_from (test x) true k refl
 all_appended test (y ∷ xs) x h k =
     let b = and_parts (test y) (list_all test xs) h in
@@ -105,10 +105,10 @@ module _ (sig : Signature) (preds : List PredDecl) where
       )
 
   module _ (vars : List Sort) where
-    -- all parts are well sorted, and conditions are no conjunctions
+    -- all parts are well sorted, and each condition is a part by itself
     pub record AreSorted (found : Parts) : Type 0 where
       pub conditions : list_all (is_condition sig vars) found.conj ≡ true
-      pub singles : list_all is_single found.conj ≡ true
+      pub singles : list_all is_part found.conj ≡ true
       pub atoms : list_all (is_sorted_atom sig (positions preds) vars) found.body ≡ true
       pub head : head_all (is_sorted_atom sig (positions preds) vars) found.head ≡ true
 
@@ -119,12 +119,12 @@ module _ (sig : Signature) (preds : List PredDecl) where
     Sorts t = (s : Side) (found made : Parts) → collected t s found ≡ Ok made → IsTruth t → is_unquantified t ≡ true → AreSorted found → AreSorted made
 
     -- one more condition
-    with_conjunct : (t : Term) (found : Parts) → Plain t vars sort.Bool → is_single t ≡ true → AreSorted found
+    with_conjunct : (t : Term) (found : Parts) → Plain t vars sort.Bool → is_part t ≡ true → AreSorted found
         → AreSorted (record { conj = found.conj ++ t ∷ []; body = found.body; head = found.head })
     with_conjunct t found p single sorted = record {
       conditions = all_appended (is_condition sig vars) found.conj t sorted.conditions
           (and_from (is_plain t) (is_sort sort.Bool (sort_of Alone t vars)) p.plain (ap (is_sort sort.Bool) p.sorted ∙ same_itself sort.Bool));
-      singles = all_appended is_single found.conj t sorted.singles single;
+      singles = all_appended is_part found.conj t sorted.singles single;
       atoms = sorted.atoms;
       head = sorted.head;
     }
@@ -137,14 +137,14 @@ module _ (sig : Signature) (preds : List PredDecl) where
           ∙ ap (λ b. when b sort.Bool) (same_sorts_itself (sort.Bool ∷ []));
     }
 
-    negation_single : (t : Term) → is_single (term.App op.Not (t ∷ [])) ≡ true
-    negation_single t = ap is_single_level (term.outs-App op.Not (t ∷ []))
+    negation_single : (t : Term) → is_part (term.App op.Not (t ∷ [])) ≡ true
+    negation_single t = ap is_part_level (term.outs-App op.Not (t ∷ []))
 
-    condition_sorted : (t : Term) (s : Side) (found : Parts) → Plain t vars sort.Bool → (s ≡ side.Assumed → is_single t ≡ true) → AreSorted found → AreSorted (with_condition s t found)
+    condition_sorted : (t : Term) (s : Side) (found : Parts) → Plain t vars sort.Bool → (s ≡ side.Assumed → is_part t ≡ true) → AreSorted found → AreSorted (with_condition s t found)
     condition_sorted t side.Concluded found p single sorted = with_conjunct (term.App op.Not (t ∷ [])) found (negation_plain t p) (negation_single t) sorted
     condition_sorted t side.Assumed found p single sorted = with_conjunct t found p (single refl) sorted
 
-    whole_sorted : (m : Bool) (t : Term) (s : Side) (found made : Parts) → mentions t ≡ m → (s ≡ side.Assumed → is_single t ≡ true) → whole_read m t s found ≡ Ok made
+    whole_sorted : (m : Bool) (t : Term) (s : Side) (found made : Parts) → mentions t ≡ m → (s ≡ side.Assumed → is_part t ≡ true) → whole_read m t s found ≡ Ok made
         → IsTruth t → is_unquantified t ≡ true → AreSorted found → AreSorted made
     whole_sorted true t s found made m single e truth u sorted = absurd (refused_made _ made e)
     whole_sorted false t s found made m single e truth u sorted =
@@ -162,7 +162,7 @@ module _ (sig : Signature) (preds : List PredDecl) where
     literal_sorted false side.Assumed found made e sorted =
         subst AreSorted (same_made (with_condition side.Assumed (term.Lit false) found) made e)
         (condition_sorted (term.Lit false) side.Assumed found (record { plain = is_plain-Lit false; sorted = sort_of-Lit Alone false vars })
-        (λ f. ap is_single_level (term.outs-Lit false)) sorted)
+        (λ f. ap is_part_level (term.outs-Lit false)) sorted)
 
     -- atoms
     atom_is_sorted : (p : ℕ) (ts : List Term) → IsTruth (term.Pred p ts) → list_any mentions ts ≡ false → is_unquantified (term.Pred p ts) ≡ true
@@ -233,8 +233,8 @@ module _ (sig : Signature) (preds : List PredDecl) where
         let g = app_sorts Over vars op.Not ts sort.Bool h in
         all_truths ts g.sorts g.each (from_one g.sorts (when_some (same_sorts g.sorts (sort.Bool ∷ [])) sort.Bool sort.Bool g.result).0)
 
-    single_app : (o : Op) (ts : List Term) → is_single_level (Term-F.App o ts) ≡ true → is_single (term.App o ts) ≡ true
-    single_app o ts h = ap is_single_level (term.outs-App o ts) ∙ h
+    single_app : (o : Op) (ts : List Term) → is_part_level (Term-F.App o ts) ≡ true → is_part (term.App o ts) ≡ true
+    single_app o ts h = ap is_part_level (term.outs-App o ts) ∙ h
 
     -- an operator's term
     app_sorted : (o : Op) (s : Side) (m : Bool) (ts : List Term) → AllByRecursion Sorts ts → (found made : Parts) → mentions (term.App o ts) ≡ m
@@ -253,18 +253,18 @@ module _ (sig : Signature) (preds : List PredDecl) where
     app_sorted o s false ts f found made n e truth us u sorted = whole_sorted false (term.App o ts) s found made n (λ g. single_app o ts refl) e truth u sorted
 
     -- any other term
-    other_sorted : (t : Term) (s : Side) (found made : Parts) → is_single t ≡ true → collected t s found ≡ whole_read (mentions t) t s found → collected t s found ≡ Ok made
+    other_sorted : (t : Term) (s : Side) (found made : Parts) → is_part t ≡ true → collected t s found ≡ whole_read (mentions t) t s found → collected t s found ≡ Ok made
         → IsTruth t → is_unquantified t ≡ true → AreSorted found → AreSorted made
     other_sorted t s found made single same e truth u sorted = whole_sorted (mentions t) t s found made refl (λ g. single) (sym same ∙ e) truth u sorted
 
     pub collected_sorted : (t : Term) → Sorts t
     collected_sorted = term_ind Sorts (record {
-      of_var = λ i s found made. other_sorted (term.Var i) s found made (ap is_single_level (term.outs-Var i)) (collected-Var s found i);
-      of_num = λ n s found made. other_sorted (term.Num n) s found made (ap is_single_level (term.outs-Num n)) (collected-Num s found n);
+      of_var = λ i s found made. other_sorted (term.Var i) s found made (ap is_part_level (term.outs-Var i)) (collected-Var s found i);
+      of_num = λ n s found made. other_sorted (term.Num n) s found made (ap is_part_level (term.outs-Num n)) (collected-Num s found n);
       of_lit = λ b s found made e truth u sorted. literal_sorted b s found made (sym (collected-Lit s found b) ∙ e) sorted;
       of_app = λ o ts f s found made e truth u sorted.
           app_sorted o s (mentions (term.App o ts)) ts f found made refl (sym (collected-App s found o ts) ∙ e) truth (sym (is_unquantified-App o ts) ∙ u) u sorted;
       of_pred = λ p ts f s found made e truth u sorted. atom_sorted (list_any mentions ts) p ts s found made refl (sym (collected-Pred s found p ts) ∙ e) truth u sorted;
-      of_quant = λ k sorts t f s found made. other_sorted (term.Quant k sorts t) s found made (ap is_single_level (term.outs-Quant k sorts t)) (collected-Quant s found k sorts t);
-      of_call = λ k ts f s found made. other_sorted (term.Call k ts) s found made (ap is_single_level (term.outs-Call k ts)) (collected-Call s found k ts);
+      of_quant = λ k sorts t f s found made. other_sorted (term.Quant k sorts t) s found made (ap is_part_level (term.outs-Quant k sorts t)) (collected-Quant s found k sorts t);
+      of_call = λ k ts f s found made. other_sorted (term.Call k ts) s found made (ap is_part_level (term.outs-Call k ts)) (collected-Call s found k ts);
     })

@@ -1,5 +1,5 @@
 -- An assertion is true where its rest, behind the quantifiers in front, is for all values of their variables.
-use Rattle.std.proofs.Common.{◌≡◌, ◌⊎◌, inl, inr, ℕ, ℤ, Bool, true, false, not, cond, List, [], ◌∷◌, ◌++◌, map, refl, ap, sym, subst, ◌∙◌}
+use Rattle.std.proofs.Common.{◌≡◌, inl, inr, Bool, true, false, not, cond, List, [], ◌∷◌, ◌++◌, map, refl, ap, sym, subst, ◌∙◌}
 use Rattle.std.proofs.lemmas.List.{append_assoc, append-nil}
 use Rattle.std.specs.List.{AllByRecursion}
 use Rattle.chc_sorts.specs.declared.sort.Sort.{Sort}
@@ -22,7 +22,7 @@ use Rattle.chc_script.specs.Horn.{Prefix, left, binds, prefix_of, stripping, ope
 use Rattle.chc_script.specs.declared.horn.side.Side.{Side}
 use Rattle.chc_script.specs.declared.horn.side.Side.TheVariants as side
 use Rattle.chc_script.proofs.PrefixLaws.{prefix-Var, prefix-Num, prefix-Lit, prefix-App, prefix-Pred, prefix-Quant, prefix-Call}
-use Rattle.chc_script.proofs.HornSteps.{holding, same_truth, true_not_false}
+use Rattle.chc_script.proofs.HornSteps.{holding, true_not_false}
 
 -- values of variables are those of the first and of the others
 pub record Split (sig : Signature) (vs : List Value) (ss ts : List Sort) : Type 0 where

@@ -1,23 +1,22 @@
 -- What an assertion and the clause that it says have to do with each other.
-use Rattle.std.specs.Prelude.{◌≡◌, ℕ, Bool, true, false, not, ◌&&◌, IsTrue, List, [], ◌∷◌, map, Some, Ok, slice_get}
-use Rattle.std.specs.List.{list_all}
+use Rattle.std.specs.Prelude.{◌≡◌, ℕ, true, IsTrue, List, [], map, Some, Ok, slice_get}
 use Rattle.chc_sorts.specs.declared.sort.Sort.{Sort}
 use Rattle.chc_sorts.specs.declared.sort.Sort.TheVariants as sort
-use Rattle.chc_sorts.specs.declared.op.Op.{Op}
-use Rattle.chc_sorts.specs.declared.op.Op.TheVariants as op
 use Rattle.chc_sorts.specs.Signature.{Signature}
+use Rattle.chc_sorts.specs.WellFounded.{IsWellFounded}
 use Rattle.chc_values.specs.declared.value.Value.{Value}
 use Rattle.chc_values.specs.declared.world.WorldEntry.{WorldEntry}
 use Rattle.chc_values.specs.Values.{AreOf}
 use Rattle.chc_values.specs.Worlds.{IsWorld}
-use Rattle.chc_terms.specs.declared.term.Term.{Term, Term-F, out-Term}
+use Rattle.chc_terms.specs.declared.term.Term.{Term}
 use Rattle.chc_terms.specs.Sorted.{Context, sort_of, is_unquantified}
 use Rattle.chc_terms.specs.Laws.{Means}
 use Rattle.chc_state.specs.declared.clause.Clause.{Clause}
 use Rattle.chc_state.specs.declared.clause.PredDecl.{PredDecl}
 use Rattle.chc_state.specs.declared.defs.Defs.{Defs}
 use Rattle.chc_state.specs.States.{StateView}
-use Rattle.chc_state.specs.Sorts.{positions, is_sorted_clause}
+use Rattle.chc_state.specs.Sorts.{positions}
+use Rattle.chc_state.specs.WellFormed.{term_fits, is_well_formed}
 use Rattle.chc_state.specs.Definitions.{PredMeans, DefMeans, HasUnder, IsTrueUnder, AssertTrue, Decided, Defines, fun_sort}
 use Rattle.chc_script.specs.Horn.{clause_of}
 
@@ -30,24 +29,11 @@ pub record SaysClause (s : StateView) (assertion : Term) (clause : Clause) : Typ
   pub sorted : sort_of (script_context s.sig s.preds) assertion [] ≡ Some sort.Bool
   pub says : clause_of assertion ≡ Ok clause
 
--- a condition that isn't read any further: no conjunction, and not `true`
-abbrev pub is_conjunction : Op → Bool
-is_conjunction op.And = true
-is_conjunction o = false
-
-abbrev pub is_single_level : Term-F Term → Bool
-is_single_level (Term-F.App o ts) = not (is_conjunction o)
-is_single_level (Term-F.Lit b) = not b
-is_single_level level = true
-
-abbrev pub is_single : Term → Bool
-is_single t = is_single_level (out-Term t)
-
--- the clause of an assertion is well sorted, and its conditions are read as far as can be
-abbrev pub ClauseIsSorted : Type 0
-ClauseIsSorted =
-    (s : StateView) (assertion : Term) (clause : Clause) → SaysClause s assertion clause
-    → IsTrue (is_sorted_clause s.sig (positions s.preds) clause) × IsTrue (list_all is_single clause.conj)
+-- the clause of an assertion whose sorts and numbers fit is well formed
+abbrev pub ClauseIsWellFormed : Type 0
+ClauseIsWellFormed =
+    (s : StateView) (assertion : Term) (clause : Clause) → SaysClause s assertion clause → IsTrue (term_fits s.sig assertion)
+    → IsTrue (is_well_formed s.sig (positions s.preds) clause)
 
 -- what terms are over that use the state's predicates and the definitions
 abbrev pub context_under : StateView → Defs → Context
@@ -77,8 +63,7 @@ TrueOfClause =
     → (assertion : Term) (clause : Clause) → SaysClause s assertion clause
     → IsTrueUnder s.sig w d clause → AssertTrue s.sig w d assertion
 
--- both under a definition of each predicate, where there are no datatypes; back where the definitions are decided and all
--- predicates are live
+-- both under a definition of each predicate; back where the definitions are decided and all predicates are live
 pub record KeptTogether (s : StateView) (w : List WorldEntry) (d : Defs) (assertion : Term) (clause : Clause) : Type 0 where
   pub clause_true : AssertTrue s.sig w d assertion → IsTrueUnder s.sig w d clause
   pub assertion_true :
@@ -87,5 +72,5 @@ pub record KeptTogether (s : StateView) (w : List WorldEntry) (d : Defs) (assert
 
 abbrev pub KeepsTruth : Type 0
 KeepsTruth =
-    (s : StateView) (w : List WorldEntry) (d : Defs) → IsWorld s.sig w → s.sig.datatypes ≡ [] → Defines d s
+    (s : StateView) (w : List WorldEntry) (d : Defs) → IsWorld s.sig w → IsWellFounded s.sig → Defines d s
     → (assertion : Term) (clause : Clause) → SaysClause s assertion clause → KeptTogether s w d assertion clause

@@ -1,9 +1,5 @@
-pub mod Clauses
-pub mod Names
 pub mod Scripts
-pub mod Terms
 pub mod Assertions
-pub mod Made
 pub mod Horn
 pub mod HornLaws
 pub mod Marks

@@ -1,5 +1,5 @@
 -- Where predicates stand in a term.
-use Rattle.std.specs.Prelude.{ℕ, Bool, true, false, cond, List, map, Option, Some, None, slice_get}
+use Rattle.std.specs.Prelude.{ℕ, Bool, true, false, cond, List, Option, Some, None, slice_get}
 use Rattle.std.specs.List.{list_any}
 use Rattle.chc_terms.specs.declared.term.Term.{Term, Term-F, fold-Term}
 use Rattle.chc_script.specs.declared.horn.mark.Mark.{Mark, Mark-F, out-Mark}

@@ -10,6 +10,8 @@ mod parts;
 mod prefix;
 mod quantified;
 mod refusal;
+#[cfg(test)]
+mod shown;
 mod side;
 #[cfg(test)]
 mod tests;
@@ -24,7 +26,7 @@ use chc_sorts::{List, Sort};
 use chc_state::Clause;
 use chc_terms::Term;
 pub use laws::{
-    assertion_of_true_clause, clause_is_sorted, clause_of_true_assertion, truth_is_kept,
+    assertion_of_true_clause, clause_is_well_formed, clause_of_true_assertion, truth_is_kept,
 };
 pub use refusal::HornErr;
 use std::alloc::Global;

@@ -26,7 +26,9 @@ use Rattle.chc_sorts.specs.Groups.{Declared, fixed_functions, field_declared, ct
 use Rattle.chc_sorts.specs.Checks.{Checks, HaveSameNames}
 use Rattle.chc_sorts.specs.Listing.{Grows, AreFresh, ctor_names, data_names, rows_of, is_short, is_narrow}
 use Rattle.chc_sorts.proofs.TakenLaws.{first_taken_same, has_two, has_three}
+use Rattle.chc_sorts.specs.WellFounded.{are_fields_known}
 use Rattle.chc_sorts.proofs.ListingLaws.{each_from-append}
+use Rattle.chc_sorts.proofs.KnownLaws.{known_with_group}
 
 -- the signature is kept where its parts are the same
 pub kept_along : (ds es : List Data) (gs hs : List ℕ) (names : List (List ℕ)) (rows rows' : List (List ℕ × Meaning)) → es ≡ ds → hs ≡ gs → rows' ≡ rows
@@ -92,6 +94,16 @@ few_datatypes sig group e = let h = (cond_none (nat_lt 1024 (length sig.datatype
   where
     not_more : (n : ℕ) → nat_lt 1024 n ≡ false → n ≤ 1024
     not_more n h = grind (arith, nat_tests)
+
+-- there are as many names as datatypes
+pub length_names_with : (sig : Signature) (group : List DataSpec) → length (names_with sig group) ≡ length sig.datatypes + length group
+length_names_with sig group =
+    omega (
+      arith,
+      length-append (map (λ (t : Data). t.name) sig.datatypes) (map (λ (t : DataSpec). t.name) group),
+      length-map sig.datatypes (λ (t : Data). t.name),
+      length-map group (λ (t : DataSpec). t.name),
+    )
 
 or_none : (a b : Bool) → (a || b) ≡ false → (a ≡ false) × (b ≡ false)
 or_none true b e = absurd (false≢true (sym e))
@@ -199,9 +211,11 @@ pub kept_after : (ds es : List Data) (gs hs : List ℕ) (rows rows' : List (List
     → AllInhabited (ds ++ map (data_declared names) group) → es ≡ ds ++ map (data_declared names) group → rows' ≡ rows ++ each_from rows_of (length ds) (map (data_declared names) group)
     → rows ≡ functions (record { datatypes = ds; groups = gs }) → table ≡ names_with (record { datatypes = ds; groups = gs }) group
     → list_all is_narrow ds ≡ true → list_all is_narrow (map (data_declared names) group) ≡ true
+    → are_fields_known (record { datatypes = ds; groups = gs }) ≡ true → length names ≤ length ds + length group
     → IsKept (record { datatypes = es; groups = hs }) table rows'
-kept_after ds es gs hs rows rows' group names table few all e r old t before behind = record {
+kept_after ds es gs hs rows rows' group names table few all e r old t before behind fields enough = record {
   inhabited = subst AllInhabited (sym e) all;
+  known = known_with_group ds es gs hs names group e enough fields;
   few = omega (arith, ap length e, length-append ds (map (data_declared names) group), length-map group (data_declared names));
   narrow = ap (list_all is_narrow) e ∙ list_all-append is_narrow ds (map (data_declared names) group) ∙ ap (λ b. b && list_all is_narrow (map (data_declared names) group)) before ∙ behind;
   named = t ∙ ap (λ l. map (λ (x : Data). x.name) ds ++ l) (names_stay names group) ∙ sym (map_on (λ (x : Data). x.name) ds (map (data_declared names) group)) ∙ ap (map (λ (x : Data). x.name)) (sym e);

@@ -10,4 +10,5 @@ mod TakenLaws
 mod FieldLaws
 mod ListingLaws
 mod GroupLaws
+pub mod KnownLaws
 mod AddLaws

@@ -6,6 +6,7 @@ ghost use Rattle.chc_sorts.specs.declared.sort.Sort.TheVariants as sort;
 ghost use Rattle.chc_sorts.specs.Signature.{Signature, IsInhabited, no_datatypes};
 ghost use Rattle.chc_sorts.specs.Functions.{functions, meaning_of};
 ghost use Rattle.chc_sorts.specs.Listing.{is_narrow};
+ghost use Rattle.chc_sorts.specs.WellFounded.{IsWellFounded};
 ghost use Rattle.chc_sorts.specs.Named.{Answers, datatype_names, sort_read};
 ghost use Rattle.chc_sorts.specs.Groups.{AddsGroup};
 
@@ -70,6 +71,14 @@ impl Sig {
         ensures narrow { list_all is_narrow result.now ≡ true }
     {
         &self.datatypes
+    }
+
+    /// Every datatype has a value, and the sort of every field names datatypes of the signature alone. So every sort
+    /// of the signature has a value.
+    pub fn well_founded(&self)
+        ensures { IsWellFounded self.now }
+    {
+        let _datatypes = &self.datatypes;
     }
 
     /// The sizes of the groups, in order of declaration.

@@ -13,7 +13,7 @@ use Rattle.chc_values.specs.Worlds.{IsWorld}
 use Rattle.chc_terms.specs.declared.fun_sort.FunSort.{FunSort}
 use Rattle.chc_terms.specs.Has.{Has, silent}
 use Rattle.chc_terms.specs.Sorted.{Context}
-use Rattle.chc_terms.specs.Laws.{IsFunctional, IsTotal, Means, AreTotal, OneValue}
+use Rattle.chc_terms.specs.Laws.{IsFunctional, IsTotal, Means, AreTotal, OneValueUnderAny}
 use Rattle.chc_state.specs.declared.clause.PredDecl.{PredDecl}
 use Rattle.chc_state.specs.declared.defs.Def.{Def}
 use Rattle.chc_state.specs.declared.defs.Defs.{Defs}
@@ -50,11 +50,11 @@ module _ (sig : Signature) (w : List WorldEntry) (defs : List Def) where
       nowhere : (params : List Sort) → None ≡ Some params → ⊥
       nowhere params e = cc
 
-  module _ (one : OneValue) (world : IsWorld sig w) (none : sig.datatypes ≡ []) (definitions : (k : ℕ) (def : Def) → slice_get defs k ≡ Some def → IsDefinition sig defs k def) where
-    body_functional : (n : ℕ) (def : Def) → AreFunctional n → slice_get defs n ≡ Some def → (vs : List Value) → AreOf sig vs def.params
+  module _ (one : OneValueUnderAny) (world : IsWorld sig w) (definitions : (k : ℕ) (def : Def) → slice_get defs k ≡ Some def → IsDefinition sig defs k def) where
+    body_functional : (n : ℕ) (def : Def) → AreFunctional n → slice_get defs n ≡ Some def
         → IsFunctional sig (λ k us v. Has sig w silent (CallMeans sig w defs n) def.body us v) 0 def.params def.result
-    body_functional n def fits at vs are =
-        one (context_before sig defs n) w silent (CallMeans sig w defs n) world none (means_before n fits) def.body def.params def.result (definitions n def at).sorted vs are
+    body_functional n def fits at =
+        one (context_before sig defs n) w silent (CallMeans sig w defs n) world (means_before n fits) def.body def.params def.result (definitions n def at).sorted
 
     functional_next : (n : ℕ) → AreFunctional n → AreFunctional (suc n)
     functional_next n fits k def inside at = record { one = λ vs are u v a b. same vs are u v a b; of = λ vs are v a. sorted vs are v a }
@@ -70,13 +70,13 @@ module _ (sig : Signature) (w : List WorldEntry) (defs : List Def) where
         same vs are u v (inl a) (inr b) = let below = CallMeans-below n k vs u a in let e : k ≡ n = b.0 in absurd (omega arith)
         same vs are u v (inr a) (inl b) = let below = CallMeans-below n k vs v b in let e : k ≡ n = a.0 in absurd (omega arith)
         same vs are u v (inr a) (inr b) =
-            (body_functional n def fits (ap (λ j. slice_get defs j) (sym a.0) ∙ at) vs are).one vs are u v
+            (body_functional n def fits (ap (λ j. slice_get defs j) (sym a.0) ∙ at)).one vs are u v
             (body_is vs u a.1 (sym (here a.1 a.0 a.2)) a.3) (body_is vs v b.1 (sym (here b.1 b.0 b.2)) b.3)
 
         sorted : (vs : List Value) → AreOf sig vs def.params → (v : Value) → CallMeans sig w defs (suc n) k vs v → IsOf sig v def.result
         sorted vs are v (inl a) = (fits k def (CallMeans-below n k vs v a) at).of vs are v a
         sorted vs are v (inr a) =
-            (body_functional n def fits (ap (λ j. slice_get defs j) (sym a.0) ∙ at) vs are).of vs are v (body_is vs v a.1 (sym (here a.1 a.0 a.2)) a.3)
+            (body_functional n def fits (ap (λ j. slice_get defs j) (sym a.0) ∙ at)).of vs are v (body_is vs v a.1 (sym (here a.1 a.0 a.2)) a.3)
 
     functional : (n : ℕ) → AreFunctional n
     functional zero = λ k def inside at. absurd (omega arith)
@@ -106,12 +106,12 @@ module _ (s : StateView) (d : Defs) (defines : Defines d s) where
 
 -- definitions mean what their sorts say, and so do the predicates that they define, by the law that a term
 -- has at most one value
-pub defined_means : OneValue → (s : StateView) (w : List WorldEntry) (d : Defs) → IsWorld s.sig w → s.sig.datatypes ≡ [] → Defines d s
+pub defined_means : OneValueUnderAny → (s : StateView) (w : List WorldEntry) (d : Defs) → IsWorld s.sig w → Defines d s
     → Means (defined_context s d) (PredMeans s.sig w d) (DefMeans s.sig w d)
-defined_means one s w d world none defines = record { preds_fit = λ p params e. of_pred p params e; defs_fit = λ k f e. of_call k f e }
+defined_means one s w d world defines = record { preds_fit = λ p params e. of_pred p params e; defs_fit = λ k f e. of_call k f e }
   where
     of_def : (k : ℕ) (def : Def) → slice_get d.list k ≡ Some def → IsFunctional s.sig (DefMeans s.sig w d) k def.params def.result
-    of_def k def at = functional s.sig w d.list one world none defines.definitions (length d.list) k def (slice_get_within d.list k def at) at
+    of_def k def at = functional s.sig w d.list one world defines.definitions (length d.list) k def (slice_get_within d.list k def at) at
 
     of_call : (k : ℕ) (f : FunSort) → slice_get (map fun_sort d.list) k ≡ Some f → IsFunctional s.sig (DefMeans s.sig w d) k f.params f.result
     of_call k f e =

@@ -3,6 +3,7 @@ pub mod Appended
 pub mod Charges
 pub mod Constants
 pub mod Defined
+pub mod Forming
 pub mod Limiting
 pub mod Members
 pub mod Modelled

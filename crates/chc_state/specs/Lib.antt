@@ -3,5 +3,8 @@ pub mod Limits
 pub mod Meaning
 pub mod Steps
 pub mod Sorts
+pub mod WellFormed
+pub mod Making
+pub mod Names
 pub mod Definitions
 pub mod Back

@@ -34,6 +34,10 @@ abbrev pub head_any : (Atom → Bool) → Option Atom → Bool
 head_any test None = false
 head_any test (Some a) = test a
 
+-- whether every atom of the clause is on a live predicate
+abbrev pub clause_uses_live : List PredDecl → Clause → Bool
+clause_uses_live preds c = list_all (on_live preds) c.body && head_all (on_live preds) c.head
+
 -- whether every atom of the clauses is on a live predicate
 abbrev pub uses_live : List PredDecl → List Clause → Bool
-uses_live preds = list_all (λ (c : Clause). list_all (on_live preds) c.body && head_all (on_live preds) c.head)
+uses_live preds = list_all (clause_uses_live preds)

@@ -3,7 +3,12 @@
 
 mod clause;
 mod defs;
+mod formed;
+#[cfg(test)]
+mod formed_tests;
 mod limits;
+mod making;
+mod names;
 mod state;
 mod step;
 mod tally;
@@ -12,6 +17,9 @@ mod tests;
 
 pub use clause::{Atom, Clause, PredDecl};
 pub use defs::{Def, Defs};
+pub use formed::positions_fit;
+pub use making::StateErr;
+pub use names::Names;
 pub use state::State;
 pub use step::Step;
 pub use tally::over;

@@ -5,6 +5,7 @@ use Rattle.std.proofs.lemmas.Option.{none-some}
 use Rattle.chc_sorts.specs.declared.sort.Sort.{Sort}
 use Rattle.chc_sorts.specs.declared.sort.Sort.TheVariants as sort
 use Rattle.chc_sorts.specs.Signature.{Signature}
+use Rattle.chc_sorts.specs.WellFounded.{IsWellFounded}
 use Rattle.chc_values.specs.declared.value.Value.{Value}
 use Rattle.chc_values.specs.declared.value.Value.TheVariants as value
 use Rattle.chc_values.specs.declared.world.WorldEntry.{WorldEntry}
@@ -15,11 +16,12 @@ use Rattle.chc_terms.specs.declared.term.Term.{Term}
 use Rattle.chc_terms.specs.Has.{Meaning, Has, EachHas}
 use Rattle.chc_terms.specs.Sorted.{Context, sort_of, sorts_of, is_plain, is_unquantified}
 use Rattle.chc_terms.specs.ShiftLaws.{ShiftKeepsValues, ShiftKeepsSort, ShiftKeepsCounts}
-use Rattle.chc_terms.specs.Laws.{OneValue, OneValueUnderAny, SomeValue, SameMeaning, Means, AreTotal}
+use Rattle.chc_terms.specs.Laws.{OneValue, OneValueUnderAny, SomeValue, SomeValueUnderAny, SameMeaning, Means, AreTotal}
 use Rattle.chc_terms.proofs.Contexts.{alone, alone_extends, sort_kept, sorts_kept}
 use Rattle.chc_terms.proofs.SameSort.{both_true}
 use Rattle.chc_terms.proofs.OperatorLaws.{operators_fit, operators_answer, no_datatypes_answer}
 use Rattle.chc_terms.proofs.DatatypeOperators.{datatypes_fit}
+use Rattle.chc_terms.proofs.DatatypeAnswers.{datatypes_answer}
 use Rattle.chc_terms.proofs.Uniqueness.{terms_single}
 use Rattle.chc_terms.proofs.Existence.{terms_have}
 use Rattle.chc_terms.proofs.TermLaws as TermLaws
@@ -34,6 +36,9 @@ one_value_under_any = TermLaws.one_value_under_any
 
 pub some_value : SomeValue
 some_value = TermLaws.some_value
+
+pub some_value_under_any : SomeValueUnderAny
+some_value_under_any = TermLaws.some_value_under_any
 
 pub same_meaning : SameMeaning
 same_meaning = TermLaws.same_meaning
@@ -78,6 +83,12 @@ module _ (cx : Context) (w : List WorldEntry) (preds defs : Meaning) (world : Is
   pub some_list : cx.sig.datatypes ≡ [] → AreTotal cx preds defs → list_all (λ b. b) (map is_unquantified ts) ≡ true → (vs : List Value) × EachHas (Has cx.sig w preds defs) ts env vs
   some_list none total q =
       terms_have cx w preds defs (operators_fit cx.sig w world.0 (datatypes_fit cx.sig w world)) (operators_answer cx.sig w (no_datatypes_answer cx.sig w none)) means total
+      ts q vars sorts sorted env fits
+
+  -- the same under any signature that is well founded
+  pub some_list_under_any : IsWellFounded cx.sig → AreTotal cx preds defs → list_all (λ b. b) (map is_unquantified ts) ≡ true → (vs : List Value) × EachHas (Has cx.sig w preds defs) ts env vs
+  some_list_under_any founded total q =
+      terms_have cx w preds defs (operators_fit cx.sig w world.0 (datatypes_fit cx.sig w world)) (operators_answer cx.sig w (datatypes_answer cx.sig w founded)) means total
       ts q vars sorts sorted env fits
 
 -- what plain terms have doesn't depend on what predicates and definitions mean

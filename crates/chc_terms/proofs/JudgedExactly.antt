@@ -253,3 +253,24 @@ module _ (cx : Context) where
 
 pub judges_exactly : JudgesExactly
 judges_exactly cx t vars s = (λ h. sym (agrees cx t vars) ∙ ap ok_of h, λ h. ok_is (judged cx t vars) s (agrees cx t vars ∙ h))
+
+-- ---- what an answer says of the sort
+
+all_terms : (P : Term → Type 0) → ((t : Term) → P t) → (ts : List Term) → AllByRecursion P ts
+all_terms P f [] = tt
+all_terms P f (t ∷ ts) = (f t, all_terms P f ts)
+
+pub sort_answered : (cx : Context) (t : Term) (vars : List Sort) (s : Sort) → Ok s ≡ judged cx t vars → Some s ≡ sort_of cx t vars
+sort_answered cx t vars s h = ap ok_of h ∙ agrees cx t vars
+
+pub sort_refused : (cx : Context) (t : Term) (vars : List Sort) (e : SortErr) → Err e ≡ judged cx t vars → None ≡ sort_of cx t vars
+sort_refused cx t vars e h = ap ok_of h ∙ agrees cx t vars
+
+pub sorts_answered : (cx : Context) (ts : List Term) (vars sorts : List Sort) → Ok sorts ≡ judged_all cx ts vars → Some sorts ≡ sorts_of cx ts vars
+sorts_answered cx ts vars sorts h = ap ok_of h ∙ all_agree cx ts (all_terms (Agrees cx) (agrees cx) ts) vars
+
+pub sorts_refused : (cx : Context) (ts : List Term) (vars : List Sort) (e : SortErr) → Err e ≡ judged_all cx ts vars → None ≡ sorts_of cx ts vars
+sorts_refused cx ts vars e h = ap ok_of h ∙ all_agree cx ts (all_terms (Agrees cx) (agrees cx) ts) vars
+
+-- a sort that is answered is the term's, and one that is refused isn't there
+pub ruleset answered = (sort_answered, sort_refused, sorts_answered, sorts_refused)

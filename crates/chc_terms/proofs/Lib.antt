@@ -16,6 +16,7 @@ pub mod TermLaws
 pub mod Contexts
 pub mod ForOthers
 pub mod DatatypeOperators
+pub mod DatatypeAnswers
 pub mod Variables
 pub mod OccurrenceLaws
 pub mod ValueTermLaws
@@ -28,3 +29,4 @@ pub mod SortTests
 pub mod JudgedLaws
 pub mod Judging
 pub mod JudgedExactly
+pub mod NumberLaws

@@ -1,5 +1,6 @@
 -- What a term with room for other variables keeps: its values, its sort, its size and its depth.
 use Rattle.std.proofs.Common.{◌≡◌, ℕ, ◌+◌, List, [], ◌∷◌, ◌++◌, length, option_map, option_and_then, slice_get, refl, sym, ap, ◌∙◌, subst, append_assoc, max}
+use Rattle.std.specs.Prelude.{Result, IfOk, Ok, Err}
 use Rattle.std.specs.List.{AllByRecursion}
 use Rattle.chc_sorts.specs.declared.sort.Sort.{Sort}
 use Rattle.chc_sorts.specs.Signature.{Signature}
@@ -12,7 +13,7 @@ use Rattle.chc_terms.specs.Counts.{size, size_all, depth, depth_all}
 use Rattle.chc_terms.specs.Has.{Meaning, Has}
 use Rattle.chc_terms.specs.Shifted.{moved, shifted, shifted_all}
 use Rattle.chc_terms.specs.Sorted.{Context, sort_of, sorts_of, op_sort, truth_at, result_at, declared_quantifier_sort}
-use Rattle.chc_terms.specs.ShiftLaws.{ShiftKeepsValues, ShiftKeepsSort, ShiftKeepsCounts}
+use Rattle.chc_terms.specs.ShiftLaws.{ShiftKeepsValues, ShiftKeepsSort, ShiftKeepsCounts, KeepsMeaning, as_tested}
 use Rattle.chc_terms.proofs.Along.{Gives, EachGives, app_along, pred_along, call_along, quant_along}
 use Rattle.chc_terms.proofs.CountLaws.{size-Var, size-App, size-Pred, size-Quant, size-Call, size_all-cons, depth-Var, depth-App, depth-Pred, depth-Quant, depth-Call}
 use Rattle.chc_terms.proofs.HasLaws.{Has-Var, Has-Num, Has-Lit}
@@ -207,3 +208,14 @@ module _ (from up : ℕ) where
 
 pub shift_keeps_counts : ShiftKeepsCounts
 shift_keeps_counts t from up = counted from up t
+
+pub keeps_meaning : (t : Term) (from up : ℕ) → KeepsMeaning t (shifted t from up) from up
+keeps_meaning t from up = record {
+  same_values = λ sig w preds defs before new after e g v. shift_keeps_values sig w (as_tested preds) (as_tested defs) t from up before new after e g v;
+  same_sort = λ cx before new after e g. shift_keeps_sort cx t from up before new after e g;
+  same_size = (shift_keeps_counts t from up).0;
+  same_depth = (shift_keeps_counts t from up).1;
+}
+
+pub keeps_meaning_where : (t : Term) (from up : ℕ) (s : Term) → s ≡ shifted t from up → KeepsMeaning t s from up
+keeps_meaning_where t from up s e = subst (λ (x : Term). KeepsMeaning t x from up) (sym e) (keeps_meaning t from up)

@@ -3,6 +3,7 @@ use Rattle.std.specs.Prelude.{◌≡◌, ℕ, List, [], Some, IsTrue, slice_get}
 use Rattle.chc_sorts.specs.declared.sort.Sort.{Sort}
 use Rattle.chc_sorts.specs.declared.sort.Sort.TheVariants as sort
 use Rattle.chc_sorts.specs.Signature.{Signature}
+use Rattle.chc_sorts.specs.WellFounded.{IsWellFounded}
 use Rattle.chc_values.specs.declared.value.Value.{Value}
 use Rattle.chc_values.specs.declared.world.WorldEntry.{WorldEntry}
 use Rattle.chc_values.specs.Values.{IsOf, AreOf}
@@ -50,6 +51,14 @@ OneValueUnderAny =
 abbrev pub SomeValue : Type 1
 SomeValue =
     (cx : Context) (w : List WorldEntry) (preds defs : Meaning) → IsWorld cx.sig w → cx.sig.datatypes ≡ []
+    → Means cx preds defs → AreTotal cx preds defs
+    → (t : Term) (vars : List Sort) (s : Sort) → sort_of cx t vars ≡ Some s → IsTrue (is_unquantified t)
+    → (env : List Value) → AreOf cx.sig env vars → (v : Value) × Has cx.sig w preds defs t env v
+
+-- the same under any signature that is well founded, whether it has datatypes or not
+abbrev pub SomeValueUnderAny : Type 1
+SomeValueUnderAny =
+    (cx : Context) (w : List WorldEntry) (preds defs : Meaning) → IsWorld cx.sig w → IsWellFounded cx.sig
     → Means cx preds defs → AreTotal cx preds defs
     → (t : Term) (vars : List Sort) (s : Sort) → sort_of cx t vars ≡ Some s → IsTrue (is_unquantified t)
     → (env : List Value) → AreOf cx.sig env vars → (v : Value) × Has cx.sig w preds defs t env v

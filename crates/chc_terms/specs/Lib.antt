@@ -8,3 +8,4 @@ pub mod Alike
 pub mod ShiftLaws
 pub mod Judged
 pub mod Demands
+pub mod Numbers

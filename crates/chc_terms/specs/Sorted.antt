@@ -174,9 +174,9 @@ is_unquantified_step (Term-F.Call k parts) = list_all (λ b. b) parts
 unfoldable pub is_unquantified : Term → Bool
 is_unquantified = fold-Term Bool is_unquantified_step
 
--- whether the sort that the operator holds, if any, fits
+-- whether the sort that the operator gives by itself, if any, fits: that of a constant array over its element sort
 abbrev pub op_fits : Signature → Op → Bool
-op_fits sig (op.Const element) = sort_fits sig element
+op_fits sig (op.Const element) = sort_fits sig (sort.Array element)
 op_fits sig o = true
 
 abbrev pub sorts_fit_step : Signature → Term-F Bool → Bool
@@ -188,6 +188,6 @@ sorts_fit_step sig (Term-F.Pred p fits) = list_all (λ b. b) fits
 sorts_fit_step sig (Term-F.Quant k sorts fits) = list_all (sort_fits sig) sorts && fits
 sorts_fit_step sig (Term-F.Call k fits) = list_all (λ b. b) fits
 
--- whether every sort that the term writes out fits
+-- whether every sort that the term writes out fits, a constant array's own too
 abbrev pub sorts_fit : Signature → Term → Bool
 sorts_fit sig = fold-Term Bool (sorts_fit_step sig)

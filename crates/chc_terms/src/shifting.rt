@@ -1,6 +1,7 @@
 //! Terms under more variables.
 
 ghost use Rattle.std.specs.Prelude.{◌≡◌, ◌^◌, ◌<◌, IfOk, IsTrue};
+ghost use Rattle.chc_terms.specs.ShiftLaws.{KeepsMeaning};
 ghost use Rattle.chc_terms.specs.Shifted.{moved as moved_to, shifted, shifted_all, can_shift, can_shift_all};
 
 use crate::term::{Term, Terms};
@@ -10,10 +11,20 @@ use std::alloc::Global;
 /// The term with `up` added to every variable's number from `from` on, which must leave each at most 4,294,967,295.
 ///
 /// A term that stands under n variables, of which `from` are before the new ones, stands then under n + `up`, and
-/// has the same value: the variables that its quantifiers bind are numbered anew as well.
+/// has the same values there, whatever the new variables' values are: the variables that its quantifiers bind are
+/// numbered anew as well. Its sort, size and depth stay.
+pub fn shift(alloc: Global, t: &Term, from: u32, up: u32) -> Result<Term, NoMemory>
+    requires { IsTrue (can_shift t.now from up) }
+    ensures shifts { IfOk result (λ s. s ≡ shifted t.now from up) }
+    ensures keeps { IfOk result (λ s. KeepsMeaning t.now s from up) }
+{
+    shift_term(alloc, t, from, up)
+}
+
+/// The same, as one turn of the recursion over the term.
 #[cycle(shift)]
 #[tactic(auto, using(crate::proofs::ShiftedLaws::equations))]
-pub fn shift(alloc: Global, t: &Term, from: u32, up: u32) -> Result<Term, NoMemory>
+fn shift_term(alloc: Global, t: &Term, from: u32, up: u32) -> Result<Term, NoMemory>
     requires { IsTrue (can_shift t.now from up) }
     ensures { IfOk result (λ s. s ≡ shifted t.now from up) }
 {
@@ -28,7 +39,7 @@ pub fn shift(alloc: Global, t: &Term, from: u32, up: u32) -> Result<Term, NoMemo
         Term::Pred(p, ts) => Ok(Term::Pred(*p, shift_all(alloc, ts, from, up)?)),
         Term::Quant(kind, sorts, body) => {
             let sorts = copy_sorts(alloc, sorts)?;
-            let body = shift(alloc, body.get(), from, up)?;
+            let body = shift_term(alloc, body.get(), from, up)?;
             Ok(Term::Quant(*kind, sorts, Boxed::new(alloc, body)?))
         }
         Term::Call(k, ts) => Ok(Term::Call(*k, shift_all(alloc, ts, from, up)?)),
@@ -44,7 +55,7 @@ pub fn shift_all(alloc: Global, ts: &Terms, from: u32, up: u32) -> Result<Terms,
 {
     let mut made = List::new(alloc);
     for t in ts.as_slice() {
-        made.push(shift(alloc, t, from, up)?)?;
+        made.push(shift_term(alloc, t, from, up)?)?;
     }
     Ok(made)
 }

@@ -1,8 +1,8 @@
 //! The sorts of terms.
 
-ghost use Rattle.std.specs.Prelude.{◌≡◌, ◌++◌, Some, OnOk, slice_get, take};
+ghost use Rattle.std.specs.Prelude.{◌≡◌, ◌++◌, Some, OnOk, IfOk, slice_get, take};
 ghost use Rattle.chc_terms.specs.declared.context.SortErr.TheVariants.{Unbound as unbound};
-ghost use Rattle.chc_terms.specs.Sorted.{result_at, truth_at};
+ghost use Rattle.chc_terms.specs.Sorted.{result_at, sort_of, sorts_of, truth_at};
 ghost use Rattle.chc_terms.specs.Judged.{Answers, Enters, JudgesExactly, Leads, declared_in, judged, judged_all, judged_atom, judged_call, judged_operation, or_refused};
 ghost use Rattle.chc_terms.specs.Demands.{demanded_sort};
 
@@ -189,6 +189,42 @@ pub fn sort_of(alloc: Global, t: &Term, cx: &Context<'_>) -> Result<Sort, SortEr
 {
     let mut bound = List::new(alloc);
     judge(alloc, cx, &mut bound, t)
+}
+
+/// The sort of the term, or `None` where it isn't well sorted.
+#[tactic(auto, using(crate::proofs::JudgedExactly::answered))]
+pub fn sort_if_any(alloc: Global, t: &Term, cx: &Context<'_>) -> Result<Option<Sort>, NoMemory>
+    ensures { IfOk result (λ sort. sort ≡ sort_of (declared_in cx.now) t.now cx.now.vars.now) }
+{
+    match sort_of(alloc, t, cx) {
+        Ok(sort) => Ok(Some(sort)),
+        Err(SortErr::NoMemory) => Err(NoMemory),
+        Err(SortErr::Unbound | SortErr::WrongCount | SortErr::WrongSort) => Ok(None),
+    }
+}
+
+/// The sorts of the terms in order, where all are well sorted. Errors: those of `sort_of`, the first from left to right.
+pub fn sorts_of(alloc: Global, terms: &List<Term>, cx: &Context<'_>) -> Result<List<Sort>, SortErr>
+    ensures { Answers result (judged_all (declared_in cx.now) terms.now cx.now.vars.now) }
+{
+    let mut bound = List::new(alloc);
+    judge_all(alloc, cx, &mut bound, terms)
+}
+
+/// The sorts of the terms in order, or `None` where one isn't well sorted.
+#[tactic(auto, using(crate::proofs::JudgedExactly::answered))]
+pub fn sorts_if_any(
+    alloc: Global,
+    terms: &List<Term>,
+    cx: &Context<'_>,
+) -> Result<Option<List<Sort>>, NoMemory>
+    ensures { IfOk result (λ sorts. sorts ≡ sorts_of (declared_in cx.now) terms.now cx.now.vars.now) }
+{
+    match sorts_of(alloc, terms, cx) {
+        Ok(sorts) => Ok(Some(sorts)),
+        Err(SortErr::NoMemory) => Err(NoMemory),
+        Err(SortErr::Unbound | SortErr::WrongCount | SortErr::WrongSort) => Ok(None),
+    }
 }
 
 /// The law that `sort_of` gives a sort exactly where the term is well sorted, and that sort.

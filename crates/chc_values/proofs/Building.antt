@@ -103,13 +103,13 @@ within_plain choices n s b (inl p) e = within_from_base choices n s Base.Bool (s
 within_plain choices n s b (inr p) e = within_from_base choices n s Base.Int (sym p ∙ e) (within-Int choices n)
 
 -- the base of a sort that names declared datatypes alone is declared
-abbrev is_declared : Signature → Sort → Bool
+abbrev pub is_declared : Signature → Sort → Bool
 is_declared sig = fold-Sort Bool (is_declared_step sig)
 
-declared-Array : (sig : Signature) (s : Sort) → is_declared sig (sort.Array s) ≡ is_declared sig s
+pub declared-Array : (sig : Signature) (s : Sort) → is_declared sig (sort.Array s) ≡ is_declared sig s
 declared-Array sig s = ap (is_declared sig) (sym (sort.rolls-Array s)) ∙ fold-roll-Sort Bool (is_declared_step sig) (Sort-F.Array s)
 
-declared-Data : (sig : Signature) (d : ℕ) → is_declared sig (sort.Data d) ≡ nat_lt d (length sig.datatypes)
+pub declared-Data : (sig : Signature) (d : ℕ) → is_declared sig (sort.Data d) ≡ nat_lt d (length sig.datatypes)
 declared-Data sig d = ap (is_declared sig) (sym (sort.rolls-Data d)) ∙ fold-roll-Sort Bool (is_declared_step sig) (Sort-F.Data d)
 
 pub declared_base : (sig : Signature) (s : Sort) (d : ℕ) → Base.Data d ≡ base_of s → IsTrue (fold-Sort Bool (is_declared_step sig) s) → d < length sig.datatypes

@@ -29,7 +29,7 @@ gaps [] = 0
 gaps (Some k ∷ choices) = gaps choices
 gaps (None ∷ choices) = gaps choices + 1
 
-nat_lt-true : (m n : ℕ) → nat_lt m n ≡ true → m < n
+pub nat_lt-true : (m n : ℕ) → nat_lt m n ≡ true → m < n
 nat_lt-true m n h = grind (arith, nat_tests)
 
 nat_lt-from : (m n : ℕ) → m < n → nat_lt m n ≡ true
@@ -211,7 +211,7 @@ module _ (sig : Signature) (n : ℕ) (choices : Choices) (h : AreAllBelow sig n 
           f.before k g.1 l (ap (λ (x : Data). slice_get x.ctors k) (sym same) ∙ g.3)
           (ap (list_all (is_within choices n)) g.4 ∙ tells n others (omega arith) w)
 
-there_is : {X : Type 0} (xs : List X) (i : ℕ) → i < length xs → (x : X) × (slice_get xs i ≡ Some x)
+pub there_is : {X : Type 0} (xs : List X) (i : ℕ) → i < length xs → (x : X) × (slice_get xs i ≡ Some x)
 there_is [] i l = absurd (omega arith)
 there_is (x ∷ xs) zero l = (x, refl)
 there_is (x ∷ xs) (suc i) l = there_is xs i (omega arith)

@@ -14,3 +14,5 @@ mod Keys
 pub mod Choosing
 pub mod Building
 mod Narrow
+pub mod DefaultExists
+pub mod Selected

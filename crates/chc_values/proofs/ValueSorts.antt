@@ -48,6 +48,9 @@ Int≢Array s e = let f : Sort-F.Int ≡ Sort-F.Array s = sym sort.outs-Int ∙ 
 pub Data≢Array : (d : ℕ) (s : Sort) → sort.Data d ≡ sort.Array s → ⊥
 Data≢Array d s e = let f : Sort-F.Data d ≡ Sort-F.Array s = sym (sort.outs-Data d) ∙ ap out-Sort e ∙ sort.outs-Array s in cc
 
+one_datatype : (d e : ℕ) → sort.Data d ≡ sort.Data e → d ≡ e
+one_datatype d e h = cc
+
 -- arrays of one sort have elements of one sort
 pub same_element : (s t : Sort) → sort.Array s ≡ sort.Array t → s ≡ t
 same_element s t e = let f : Sort-F.Array s ≡ Sort-F.Array t = sym (sort.outs-Array s) ∙ ap out-Sort e ∙ sort.outs-Array t in cc
@@ -110,6 +113,16 @@ module _ (sig : Signature) where
   -- a value of an array sort is an array
   pub array_value : (s : Sort) (v : Value) → IsOf sig v (sort.Array s) → (default : Value) × (es : List (ℤ × Value)) × (v ≡ value.Array default es)
   array_value s v h = let t = array_at_level s (out-Value v) (opened v (sort.Array s) h) in (t.0, t.1, sym (roll-out-Value v) ∙ t.2)
+
+  data_at_level : (d : ℕ) (level : Value-F Value) → LevelOf sig (λ y. y) (IsOf sig) level (sort.Data d) → (c : ℕ) × (vs : List Value) × (roll-Value level ≡ value.Data d c vs)
+  data_at_level d (Value-F.Bool b) h = absurd (Bool≢Data d (sym h))
+  data_at_level d (Value-F.Int n) h = absurd (Int≢Data d (sym h))
+  data_at_level d (Value-F.Data e c vs) h = (c, vs, value.rolls-Data e c vs ∙ ap (λ x. value.Data x c vs) (sym (one_datatype d e h.1)))
+  data_at_level d (Value-F.Array x es) h = absurd (Data≢Array d h.0 h.1)
+
+  -- a value of a datatype is a constructor on values
+  pub data_value : (d : ℕ) (v : Value) → IsOf sig v (sort.Data d) → (c : ℕ) × (vs : List Value) × (v ≡ value.Data d c vs)
+  data_value d v h = let t = data_at_level d (out-Value v) (opened v (sort.Data d) h) in (t.0, t.1, sym (roll-out-Value v) ∙ t.2)
 
   -- what an array of a sort holds
   pub record HoldsOf (default : Value) (es : List (ℤ × Value)) (element : Sort) : Type 0 where

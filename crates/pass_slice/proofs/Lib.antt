@@ -1,6 +1,5 @@
 pub mod Answering
 pub mod Ascending
-pub mod Bare
 pub mod Bounding
 pub mod Choosing
 pub mod Leading

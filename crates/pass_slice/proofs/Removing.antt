@@ -5,6 +5,7 @@ use Rattle.std.specs.List.{filter, list_any, list_all}
 use Rattle.std.proofs.lemmas.Bool.{not_from_false, not-true, or_cases, or_left, and_parts, and_from, false≢true, eq-eqb}
 use Rattle.std.proofs.lemmas.List.Sums.{sum_by-cons}
 use Rattle.chc_sorts.specs.declared.sort.Sort.{Sort}
+use Rattle.chc_sorts.specs.Signature.{Signature}
 use Rattle.chc_sorts.specs.Sorts.{sort_fits}
 use Rattle.chc_state.specs.declared.clause.Atom.{Atom}
 use Rattle.chc_state.specs.declared.clause.Clause.{Clause}
@@ -15,6 +16,7 @@ use Rattle.chc_state.specs.States.{StateView, is_live, on_live, head_all, head_a
 use Rattle.chc_state.specs.Limits.{charge, charge_of_args, filled_of_body, is_query, live_count, first_passed}
 use Rattle.chc_state.specs.Meaning.{In}
 use Rattle.chc_state.specs.Sorts.{positions, positions_fit, is_sorted_clause, are_sorted}
+use Rattle.chc_state.specs.WellFormed.{is_well_formed, are_well_formed}
 use Rattle.chc_state.specs.Steps.{PredSet, set_of, body_meets, head_meets, is_unreached, is_unneeded, retired, without, after, IsLegal, Applies}
 use Rattle.chc_state.proofs.Members.{In-filtered, kept-passes, all-at, all-from, none-at}
 use Rattle.chc_state.proofs.Limiting.{WithinLimits-from_none, none_from-WithinLimits, WithinLimits-fewer}
@@ -208,18 +210,27 @@ pub positions-after : (s : StateView) (x : Step) → positions (after s x).preds
 positions-after s (step.Unreached ps) = positions-retired_all (set_of ps) 0 s.preds
 positions-after s (step.Unneeded ps) = positions-retired_all (set_of ps) 0 s.preds
 
--- fewer clauses are well sorted still
-fewer_sorted : (s : StateView) (preds : List PredDecl) (keep : Clause → Bool) → positions preds ≡ positions s.preds → are_sorted s.sig s.preds s.clauses ≡ true → are_sorted s.sig preds (filter keep s.clauses) ≡ true
-fewer_sorted s preds keep same sorted =
-    let was = and_parts (positions_fit s.sig s.preds) (list_all (is_sorted_clause s.sig (positions s.preds)) s.clauses) sorted in
-    let of_positions : List (List Sort) → Bool = λ sorts. list_all (list_all (sort_fits s.sig)) sorts && list_all (is_sorted_clause s.sig sorts) (filter keep s.clauses) in
-    ap of_positions same
-    ∙ and_from (positions_fit s.sig s.preds) (list_all (is_sorted_clause s.sig (positions s.preds)) (filter keep s.clauses)) was.0
-    (all-from (is_sorted_clause s.sig (positions s.preds)) (filter keep s.clauses) (λ c i.
-    all-at (is_sorted_clause s.sig (positions s.preds)) c s.clauses was.1 (In-filtered keep c s.clauses i)))
+-- fewer clauses pass a test over the same positions still
+module _ (test : Signature → List (List Sort) → Clause → Bool) where
+  fewer_pass : (s : StateView) (preds : List PredDecl) (keep : Clause → Bool) → positions preds ≡ positions s.preds
+      → (positions_fit s.sig s.preds && list_all (test s.sig (positions s.preds)) s.clauses) ≡ true
+      → (positions_fit s.sig preds && list_all (test s.sig (positions preds)) (filter keep s.clauses)) ≡ true
+  fewer_pass s preds keep same passed =
+      let was = and_parts (positions_fit s.sig s.preds) (list_all (test s.sig (positions s.preds)) s.clauses) passed in
+      let of_positions : List (List Sort) → Bool = λ sorts. list_all (list_all (sort_fits s.sig)) sorts && list_all (test s.sig sorts) (filter keep s.clauses) in
+      ap of_positions same
+      ∙ and_from (positions_fit s.sig s.preds) (list_all (test s.sig (positions s.preds)) (filter keep s.clauses)) was.0
+      (all-from (test s.sig (positions s.preds)) (filter keep s.clauses) (λ c i.
+      all-at (test s.sig (positions s.preds)) c s.clauses was.1 (In-filtered keep c s.clauses i)))
 
 pub are_sorted-after : (s : StateView) (x : Step) → are_sorted s.sig s.preds s.clauses ≡ true → are_sorted (after s x).sig (after s x).preds (after s x).clauses ≡ true
 are_sorted-after s (step.Unreached ps) sorted =
-    fewer_sorted s (retired (set_of ps) 0 s.preds) (λ c. not (body_meets (set_of ps) c)) (positions-retired_all (set_of ps) 0 s.preds) sorted
+    fewer_pass is_sorted_clause s (retired (set_of ps) 0 s.preds) (λ c. not (body_meets (set_of ps) c)) (positions-retired_all (set_of ps) 0 s.preds) sorted
 are_sorted-after s (step.Unneeded ps) sorted =
-    fewer_sorted s (retired (set_of ps) 0 s.preds) (λ c. not (head_meets (set_of ps) c)) (positions-retired_all (set_of ps) 0 s.preds) sorted
+    fewer_pass is_sorted_clause s (retired (set_of ps) 0 s.preds) (λ c. not (head_meets (set_of ps) c)) (positions-retired_all (set_of ps) 0 s.preds) sorted
+
+pub are_formed-after : (s : StateView) (x : Step) → are_well_formed s.sig s.preds s.clauses ≡ true → are_well_formed (after s x).sig (after s x).preds (after s x).clauses ≡ true
+are_formed-after s (step.Unreached ps) formed =
+    fewer_pass is_well_formed s (retired (set_of ps) 0 s.preds) (λ c. not (body_meets (set_of ps) c)) (positions-retired_all (set_of ps) 0 s.preds) formed
+are_formed-after s (step.Unneeded ps) formed =
+    fewer_pass is_well_formed s (retired (set_of ps) 0 s.preds) (λ c. not (head_meets (set_of ps) c)) (positions-retired_all (set_of ps) 0 s.preds) formed

@@ -2,35 +2,13 @@
 
 ghost use Rattle.std.specs.Prelude.{◌≡◌, Option, nat_lt};
 ghost use Rattle.std.specs.List.{list_all};
-ghost use Rattle.chc_state.specs.States.{on_live, head_all, uses_live};
-ghost use Rattle.pass_slice.specs.Bare.{is_bare_atom, is_bare_clause, is_bare_decl, are_bare};
 
 use crate::{unneeded, unreached};
 use chc_sorts::{List, NoMemory, Sig, Sort};
-use chc_state::{Atom, Clause, Def, Defs, PredDecl, State, over};
+use chc_state::{Atom, Clause, Def, Defs, PredDecl, State, positions_fit};
 use chc_terms::Term;
 use std::alloc::Global;
 use std::test::Fail;
-
-/// The clause without variables and conjuncts that has this head and these body atoms, none of which
-/// has arguments.
-fn clause(alloc: Global, head: Option<u32>, body: &[u32]) -> Result<Clause, NoMemory> {
-    let mut atoms = List::new(alloc);
-    for p in body {
-        atoms.push(atom(alloc, *p))?;
-    }
-    let head = match head {
-        Some(p) => Some(atom(alloc, p)),
-        None => None,
-    };
-    Ok(Clause {
-        vars: List::new(alloc),
-        conj: List::new(alloc),
-        body: atoms,
-        head,
-        weight: 1,
-    })
-}
 
 /// An atom without arguments.
 fn atom(alloc: Global, pred: u32) -> Atom {
@@ -40,89 +18,56 @@ fn atom(alloc: Global, pred: u32) -> Atom {
     }
 }
 
-/// Whether the predicate of the atom is live.
-fn is_on_live(preds: &[PredDecl], a: &Atom) -> bool
-    ensures { result ≡ on_live preds.now a.now }
-{
-    let i = a.pred as usize;
-    if i < preds.len() {
-        preds[i].live
+/// The number of a predicate's letter, counted from `a`.
+fn number_of(letter: u8) -> u32 {
+    u32::from(letter.saturating_sub(b'a'))
+}
+
+/// An atom without arguments for each letter.
+fn atoms(alloc: Global, letters: &[u8]) -> Result<List<Atom>, NoMemory> {
+    let mut atoms = List::new(alloc);
+    for letter in letters {
+        atoms.push(atom(alloc, number_of(*letter)))?;
+    }
+    Ok(atoms)
+}
+
+/// The atom without arguments of a letter; none for `-`.
+fn head_atom(alloc: Global, letter: u8) -> Option<Atom> {
+    if letter >= b'a' {
+        Some(atom(alloc, number_of(letter)))
     } else {
-        false
+        None
     }
 }
 
-/// Whether the head is on a live predicate, where there is one.
-fn head_is_on_live(preds: &[PredDecl], head: &Option<Atom>) -> bool
-    ensures { result ≡ head_all (on_live preds.now) head.now }
-{
-    match head {
-        Some(a) => is_on_live(preds, a),
-        None => true,
+/// The clause without variables and conjuncts that has this head and these body atoms.
+fn clause(alloc: Global, head: Option<Atom>, body: List<Atom>) -> Clause {
+    Clause {
+        vars: List::new(alloc),
+        conj: List::new(alloc),
+        body,
+        head,
+        weight: 1,
     }
 }
 
-/// Whether the atoms are on live predicates.
-fn atoms_are_on_live(preds: &[PredDecl], atoms: &[Atom]) -> bool
-    ensures { result ≡ list_all (on_live preds.now) atoms.now }
-{
-    atoms.iter().all(|a| is_on_live(preds, a))
-}
-
-/// Whether every clause uses live predicates alone.
-fn all_use_live(preds: &List<PredDecl>, clauses: &List<Clause>) -> bool
-    ensures { result ≡ uses_live preds.now clauses.now }
-{
-    let decls = preds.as_slice();
-    clauses.as_slice().iter().all(|c| atoms_are_on_live(decls, c.body.as_slice())
-        && head_is_on_live(decls, &c.head))
-}
-
-/// Whether the atom has no arguments.
-fn is_bare(a: &Atom) -> bool
-    ensures { result ≡ is_bare_atom a.now }
-{
-    a.args.len() == 0
-}
-
-/// Whether the atoms have no arguments.
-fn are_bare(atoms: &[Atom]) -> bool
-    ensures { result ≡ list_all is_bare_atom atoms.now }
-{
-    atoms.iter().all(|a| is_bare(a))
-}
-
-/// Whether the head has no arguments, where there is one.
-fn head_is_bare(head: &Option<Atom>) -> bool
-    ensures { result ≡ head_all is_bare_atom head.now }
-{
-    match head {
-        Some(a) => is_bare(a),
-        None => true,
+/// Adds the clause of a word: the letter of its head or `-`, and the letters of its body.
+fn add_clause(alloc: Global, clauses: &mut List<Clause>, word: &[u8]) -> Result<(), NoMemory> {
+    if let [head, body @ ..] = word {
+        let body = atoms(alloc, body)?;
+        clauses.push(clause(alloc, head_atom(alloc, *head), body))?;
     }
+    Ok(())
 }
 
-/// Whether the clauses have no conjuncts and no arguments.
-fn clauses_are_bare(clauses: &[Clause]) -> bool
-    ensures { result ≡ list_all is_bare_clause clauses.now }
-{
-    clauses.iter().all(|c| c.conj.len() == 0
-        && are_bare(c.body.as_slice())
-        && head_is_bare(&c.head))
-}
-
-/// Whether the predicates have no positions.
-fn preds_are_bare(preds: &[PredDecl]) -> bool
-    ensures { result ≡ list_all is_bare_decl preds.now }
-{
-    preds.iter().all(|d| d.sorts.len() == 0)
-}
-
-/// Whether no predicate has positions, and no clause conjuncts or arguments.
-fn all_are_bare(preds: &List<PredDecl>, clauses: &List<Clause>) -> bool
-    ensures { result ≡ are_bare preds.now clauses.now }
-{
-    preds_are_bare(preds.as_slice()) && clauses_are_bare(clauses.as_slice())
+/// The clauses of the text, a word for each.
+fn clauses(alloc: Global, text: &[u8]) -> Result<List<Clause>, NoMemory> {
+    let mut clauses = List::new(alloc);
+    for word in text.split(|b| *b == b' ') {
+        add_clause(alloc, &mut clauses, word)?;
+    }
+    Ok(clauses)
 }
 
 /// As many predicates without positions, all live.
@@ -137,38 +82,13 @@ fn decls(alloc: Global, count: usize) -> Result<List<PredDecl>, NoMemory> {
 
 /// The state of these parts, if it is one.
 fn state(alloc: Global, preds: List<PredDecl>, clauses: List<Clause>) -> Option<State> {
-    if preds.len() >= 1_000_000 || over(&preds, &clauses).is_some() {
-        return None;
-    }
-    if all_use_live(&preds, &clauses) && all_are_bare(&preds, &clauses) {
-        Some(State::of_parts(Sig::new(alloc), preds, clauses))
+    let sig = Sig::new(alloc);
+    let few = preds.len() < 1_000_000 && clauses.len() < 1_000_000;
+    if few && positions_fit(&sig, &preds) {
+        State::make(alloc, sig, preds, clauses).ok()
     } else {
         None
     }
-}
-
-/// The predicate of the letter, or none for `-`.
-fn pred_of(letter: u8) -> Option<u32> {
-    if letter >= b'a' {
-        Some(u32::from(letter - b'a'))
-    } else {
-        None
-    }
-}
-
-/// The clauses of the text: a word for each, the letter of its head or `-`, and the letters of its body.
-fn clauses(alloc: Global, text: &[u8]) -> Result<List<Clause>, NoMemory> {
-    let mut clauses = List::new(alloc);
-    for word in text.split(|b| *b == b' ') {
-        if let [head, body @ ..] = word {
-            let mut preds = Vec::new(alloc);
-            for letter in body {
-                preds.push(u32::from(letter.saturating_sub(b'a')))?;
-            }
-            clauses.push(clause(alloc, pred_of(*head), &preds)?)?;
-        }
-    }
-    Ok(clauses)
 }
 
 /// The state of the predicates a to d and the clauses of the text, if it is one.
@@ -192,80 +112,43 @@ fn digits(found: &Option<List<u32>>) -> u32 {
     digits
 }
 
-/// How many predicates are live, and how many clauses there are.
-fn counts(s: &State) -> (usize, usize) {
-    let live = s.preds().as_slice().iter().filter(|d| d.live).count();
-    (live, s.clauses().len())
+/// How many predicates are live.
+fn count_live(s: &State) -> usize {
+    s.preds().as_slice().iter().filter(|d| d.live).count()
 }
 
-/// What is found unreached, and the counts after that is removed.
-fn unreached_in(alloc: Global, text: &[u8]) -> Result<Option<(u32, (usize, usize))>, NoMemory> {
-    let Some(s) = small(alloc, text)? else {
-        return Ok(None);
-    };
+/// How many clauses there are.
+fn count_clauses(s: &State) -> usize {
+    s.clauses().len()
+}
+
+/// What is found in a state, and the state after that is removed.
+#[derive(Drop)]
+struct Outcome {
+    digits: u32,
+    left: State,
+}
+
+/// What is found unreached in a state, and what is left.
+fn without_unreached(alloc: Global, s: State) -> Result<Outcome, NoMemory> {
     let found = unreached::find(alloc, &s)?;
     let digits = digits(&found);
-    let s = match found {
+    let left = match found {
         Some(ps) => unreached::apply(alloc, s, &ps)?,
         None => s,
     };
-    Ok(Some((digits, counts(&s))))
+    Ok(Outcome { digits, left })
 }
 
-/// What is found unneeded, and the counts after that is removed.
-fn unneeded_in(alloc: Global, text: &[u8]) -> Result<Option<(u32, (usize, usize))>, NoMemory> {
-    let Some(s) = small(alloc, text)? else {
-        return Ok(None);
-    };
+/// What is found unneeded in a state, and what is left.
+fn without_unneeded(alloc: Global, s: State) -> Result<Outcome, NoMemory> {
     let found = unneeded::find(alloc, &s)?;
     let digits = digits(&found);
-    let s = match found {
+    let left = match found {
         Some(ps) => unneeded::apply(alloc, s, &ps)?,
         None => s,
     };
-    Ok(Some((digits, counts(&s))))
-}
-
-#[test]
-fn unreached_predicates_go(rt: HostRuntime) -> Result<(), Fail> {
-    let alloc = rt.alloc();
-    assert_eq!(rt; unreached_in(alloc, b"a ba cd bac -c")?, Some((34, (2, 2))));
-    assert_eq!(rt; unreached_in(alloc, b"d cd bc ab -a")?, Some((0, (4, 5))));
-    assert_eq!(rt; unreached_in(alloc, b"ab ba d cdd -a")?, Some((12, (2, 2))));
-    Ok(())
-}
-
-#[test]
-fn unneeded_predicates_go(rt: HostRuntime) -> Result<(), Fail> {
-    let alloc = rt.alloc();
-    assert_eq!(rt; unneeded_in(alloc, b"a ba cb dbc -b")?, Some((34, (2, 3))));
-    assert_eq!(rt; unneeded_in(alloc, b"d cd bc ab -a")?, Some((0, (4, 5))));
-    assert_eq!(rt; unneeded_in(alloc, b"ab ba c dcc d")?, Some((1234, (0, 0))));
-    Ok(())
-}
-
-/// How many clauses a chain has.
-const LINKS: u32 = 300;
-
-/// The clauses by which each predicate of a chain follows from the one with the next number.
-fn chain(alloc: Global) -> Result<List<Clause>, NoMemory> {
-    let mut clauses = List::new(alloc);
-    for p in 0..LINKS {
-        clauses.push(clause(alloc, Some(p), &[p + 1])?)?;
-    }
-    Ok(clauses)
-}
-
-#[test]
-fn chains_are_followed_to_their_end(rt: HostRuntime) -> Result<(), Fail> {
-    let alloc = rt.alloc();
-    let mut clauses = chain(alloc)?;
-    clauses.push(clause(alloc, Some(LINKS), &[])?)?;
-    clauses.push(clause(alloc, None, &[0])?)?;
-    let s = state(alloc, decls(alloc, LINKS as usize + 1)?, clauses).expect(&rt, "a state");
-    assert!(rt; unreached::find(alloc, &s)?.is_none());
-    assert!(rt; unneeded::find(alloc, &s)?.is_none());
-    Ok(())
+    Ok(Outcome { digits, left })
 }
 
 /// A kind of step.
@@ -275,7 +158,121 @@ enum Kind {
     Unneeded,
 }
 
-/// As many numbers.
+/// What a kind of step finds in a state, and what is left.
+fn sliced(alloc: Global, kind: Kind, s: State) -> Result<Outcome, NoMemory> {
+    match kind {
+        Kind::Unreached => without_unreached(alloc, s),
+        Kind::Unneeded => without_unneeded(alloc, s),
+    }
+}
+
+/// The same of the state of a text, if that is one.
+fn sliced_text(alloc: Global, kind: Kind, text: &[u8]) -> Result<Option<Outcome>, NoMemory> {
+    match small(alloc, text)? {
+        Some(s) => Ok(Some(sliced(alloc, kind, s)?)),
+        None => Ok(None),
+    }
+}
+
+/// What the kind of step finds in the state of a text, and how many live predicates and clauses are left.
+fn found_in(
+    alloc: Global,
+    kind: Kind,
+    text: &[u8],
+) -> Result<Option<(u32, usize, usize)>, NoMemory> {
+    match sliced_text(alloc, kind, text)? {
+        Some(made) => Ok(Some((
+            made.digits,
+            count_live(&made.left),
+            count_clauses(&made.left),
+        ))),
+        None => Ok(None),
+    }
+}
+
+#[test]
+fn unreached_predicates_go(rt: HostRuntime) -> Result<(), Fail> {
+    let alloc = rt.alloc();
+    let kind = Kind::Unreached;
+    assert_eq!(rt; found_in(alloc, kind, b"a ba cd bac -c")?, Some((34, 2, 2)));
+    assert_eq!(rt; found_in(alloc, kind, b"d cd bc ab -a")?, Some((0, 4, 5)));
+    assert_eq!(rt; found_in(alloc, kind, b"ab ba d cdd -a")?, Some((12, 2, 2)));
+    Ok(())
+}
+
+#[test]
+fn unneeded_predicates_go(rt: HostRuntime) -> Result<(), Fail> {
+    let alloc = rt.alloc();
+    let kind = Kind::Unneeded;
+    assert_eq!(rt; found_in(alloc, kind, b"a ba cb dbc -b")?, Some((34, 2, 3)));
+    assert_eq!(rt; found_in(alloc, kind, b"d cd bc ab -a")?, Some((0, 4, 5)));
+    assert_eq!(rt;
+        found_in(alloc, kind, b"ab ba c dcc d")?,
+        Some((1234, 0, 0))
+    );
+    Ok(())
+}
+
+/// How many clauses a chain has.
+const LINKS: u32 = 300;
+
+/// The list of the one atom without arguments of that number.
+fn one_atom(alloc: Global, pred: u32) -> Result<List<Atom>, NoMemory> {
+    let mut atoms = List::new(alloc);
+    atoms.push(atom(alloc, pred))?;
+    Ok(atoms)
+}
+
+/// The clauses by which each predicate of a chain follows from the one with the next number.
+fn links(alloc: Global) -> Result<List<Clause>, NoMemory> {
+    let mut clauses = List::new(alloc);
+    for p in 0..LINKS {
+        let body = one_atom(alloc, p + 1)?;
+        clauses.push(clause(alloc, Some(atom(alloc, p)), body))?;
+    }
+    Ok(clauses)
+}
+
+/// Those clauses, the fact of the last predicate, and the query of the first.
+fn chain(alloc: Global) -> Result<List<Clause>, NoMemory> {
+    let mut clauses = links(alloc)?;
+    let last = atom(alloc, LINKS);
+    clauses.push(clause(alloc, Some(last), List::new(alloc)))?;
+    clauses.push(clause(alloc, None, one_atom(alloc, 0)?))?;
+    Ok(clauses)
+}
+
+/// The state of the chain, if it is one.
+fn chained(alloc: Global) -> Result<Option<State>, NoMemory> {
+    let preds = decls(alloc, LINKS as usize + 1)?;
+    let clauses = chain(alloc)?;
+    Ok(state(alloc, preds, clauses))
+}
+
+/// Whether the kind of step finds nothing in the state.
+fn finds_nothing(alloc: Global, kind: Kind, s: &State) -> Result<bool, NoMemory> {
+    match kind {
+        Kind::Unreached => Ok(unreached::find(alloc, s)?.is_none()),
+        Kind::Unneeded => Ok(unneeded::find(alloc, s)?.is_none()),
+    }
+}
+
+/// Whether the kind of step finds nothing in the chain, if that is a state.
+fn follows_chain(alloc: Global, kind: Kind) -> Result<Option<bool>, NoMemory> {
+    match chained(alloc)? {
+        Some(s) => Ok(Some(finds_nothing(alloc, kind, &s)?)),
+        None => Ok(None),
+    }
+}
+
+#[test]
+fn chains_are_followed_to_their_end(rt: HostRuntime) -> Result<(), Fail> {
+    assert_eq!(rt; follows_chain(rt.alloc(), Kind::Unreached)?, Some(true));
+    assert_eq!(rt; follows_chain(rt.alloc(), Kind::Unneeded)?, Some(true));
+    Ok(())
+}
+
+/// The list of those numbers.
 fn list_of(alloc: Global, numbers: &[u32]) -> Result<List<u32>, NoMemory> {
     let mut list = List::new(alloc);
     for p in numbers {
@@ -284,12 +281,20 @@ fn list_of(alloc: Global, numbers: &[u32]) -> Result<List<u32>, NoMemory> {
     Ok(list)
 }
 
+/// The list of the numbers of the letters.
+fn numbers_of(alloc: Global, letters: &[u8]) -> Result<List<u32>, NoMemory> {
+    let mut list = List::new(alloc);
+    for letter in letters {
+        list.push(number_of(*letter))?;
+    }
+    Ok(list)
+}
+
 /// Whether the step of the kind on the numbers is legal in the state.
-fn is_legal(alloc: Global, kind: Kind, s: &State, numbers: &[u32]) -> Result<bool, NoMemory> {
-    let ps = list_of(alloc, numbers)?;
+fn is_legal(alloc: Global, kind: Kind, s: &State, ps: &List<u32>) -> Result<bool, NoMemory> {
     match kind {
-        Kind::Unreached => unreached::legal(alloc, s, &ps),
-        Kind::Unneeded => unneeded::legal(alloc, s, &ps),
+        Kind::Unreached => unreached::legal(alloc, s, ps),
+        Kind::Unneeded => unneeded::legal(alloc, s, ps),
     }
 }
 
@@ -298,10 +303,10 @@ fn legal_in(
     alloc: Global,
     kind: Kind,
     text: &[u8],
-    numbers: &[u32],
+    ps: &List<u32>,
 ) -> Result<Option<bool>, NoMemory> {
     match small(alloc, text)? {
-        Some(s) => Ok(Some(is_legal(alloc, kind, &s, numbers)?)),
+        Some(s) => Ok(Some(is_legal(alloc, kind, &s, ps)?)),
         None => Ok(None),
     }
 }
@@ -309,39 +314,67 @@ fn legal_in(
 /// Nothing needs b, nothing reaches c and d, and a is both reached and needed.
 const SLICED: &[u8] = b"a aa ba ac -a";
 
+/// Whether the step on the letters' numbers is as a row says, `+` where it is legal, in the state of `SLICED`.
+fn is_row_right(alloc: Global, kind: Kind, row: &[u8]) -> Result<bool, NoMemory> {
+    match row {
+        [sign, letters @ ..] => {
+            let ps = numbers_of(alloc, letters)?;
+            let legal = legal_in(alloc, kind, SLICED, &ps)?;
+            Ok(legal == Some(*sign == b'+'))
+        }
+        [] => Ok(false),
+    }
+}
+
 #[test]
-fn choices_are_legal_or_not(rt: HostRuntime) -> Result<(), Fail> {
-    let alloc = rt.alloc();
-    let rows: [(Kind, &[u8], &[u32], bool); 16] = [
-        (Kind::Unneeded, SLICED, &[1], true),
-        (Kind::Unneeded, SLICED, &[1, 3], true),
-        (Kind::Unneeded, SLICED, &[0], false),
-        (Kind::Unneeded, SLICED, &[2], false),
-        (Kind::Unneeded, SLICED, &[], false),
-        (Kind::Unneeded, SLICED, &[1, 1], false),
-        (Kind::Unneeded, SLICED, &[3, 1], false),
-        (Kind::Unneeded, SLICED, &[1, 4], false),
-        (Kind::Unreached, SLICED, &[2], true),
-        (Kind::Unreached, SLICED, &[2, 3], true),
-        (Kind::Unreached, SLICED, &[1], false),
-        (Kind::Unreached, SLICED, &[], false),
-        (Kind::Unreached, SLICED, &[2, 2], false),
-        (Kind::Unreached, SLICED, &[3, 2], false),
-        (Kind::Unreached, SLICED, &[2, 4_294_967_295], false),
-        (Kind::Unreached, b"ab ba c -ac", &[0, 1], true),
+fn unneeded_choices_are_legal_or_not(rt: HostRuntime) -> Result<(), Fail> {
+    let rows = [
+        b"+b".as_slice(),
+        b"+bd",
+        b"-a",
+        b"-c",
+        b"-",
+        b"-bb",
+        b"-db",
+        b"-be",
     ];
-    for (i, (kind, text, numbers, legal)) in rows.iter().enumerate() {
-        assert_eq!(rt;
-            legal_in(alloc, *kind, text, numbers)?,
-            Some(*legal),
-            "at {i}"
-        );
+    for (i, row) in rows.iter().enumerate() {
+        assert!(rt; is_row_right(rt.alloc(), Kind::Unneeded, row)?, "{i}");
     }
     Ok(())
 }
 
+#[test]
+fn unreached_choices_are_legal_or_not(rt: HostRuntime) -> Result<(), Fail> {
+    let rows = [b"+c".as_slice(), b"+cd", b"-b", b"-", b"-cc", b"-dc"];
+    for (i, row) in rows.iter().enumerate() {
+        assert!(rt; is_row_right(rt.alloc(), Kind::Unreached, row)?, "{i}");
+    }
+    Ok(())
+}
+
+/// Whether the step that removes the unreached predicates of those numbers is legal in the state of the text.
+fn unreached_legal(alloc: Global, text: &[u8], ps: &[u32]) -> Result<Option<bool>, NoMemory> {
+    let ps = list_of(alloc, ps)?;
+    legal_in(alloc, Kind::Unreached, text, &ps)
+}
+
+#[test]
+fn great_numbers_and_circles_are_legal_or_not(rt: HostRuntime) -> Result<(), Fail> {
+    let alloc = rt.alloc();
+    assert_eq!(rt;
+        unreached_legal(alloc, SLICED, &[2, 4_294_967_295])?,
+        Some(false)
+    );
+    assert_eq!(rt;
+        unreached_legal(alloc, b"ab ba c -ac", &[0, 1])?,
+        Some(true)
+    );
+    Ok(())
+}
+
 /// The state after the step that removes unneeded predicates, if it is legal.
-fn without_unneeded(alloc: Global, s: State, ps: &List<u32>) -> Result<Option<State>, NoMemory> {
+fn after_unneeded(alloc: Global, s: State, ps: &List<u32>) -> Result<Option<State>, NoMemory> {
     let legal = unneeded::legal(alloc, &s, ps)?;
     if !legal {
         return Ok(None);
@@ -350,67 +383,131 @@ fn without_unneeded(alloc: Global, s: State, ps: &List<u32>) -> Result<Option<St
     Ok(Some(s))
 }
 
+/// The state of `SLICED` without b, if its removal is legal.
+fn without_b(alloc: Global) -> Result<Option<State>, NoMemory> {
+    let ps = numbers_of(alloc, b"b")?;
+    match small(alloc, SLICED)? {
+        Some(s) => after_unneeded(alloc, s, &ps),
+        None => Ok(None),
+    }
+}
+
+/// Whether the step on the letters' numbers is legal once b is gone, if that goes.
+fn legal_without_b(alloc: Global, kind: Kind, letters: &[u8]) -> Result<Option<bool>, NoMemory> {
+    let ps = numbers_of(alloc, letters)?;
+    match without_b(alloc)? {
+        Some(s) => Ok(Some(is_legal(alloc, kind, &s, &ps)?)),
+        None => Ok(None),
+    }
+}
+
 #[test]
 fn what_is_gone_goes_once(rt: HostRuntime) -> Result<(), Fail> {
-    let alloc = rt.alloc();
-    let s = small(alloc, SLICED)?.expect(&rt, "a state");
-    let ps = list_of(alloc, &[1])?;
-    let s = without_unneeded(alloc, s, &ps)?.expect(&rt, "a legal step");
-    assert!(rt; !is_legal(alloc, Kind::Unneeded, &s, &[1])?);
-    assert!(rt; is_legal(alloc, Kind::Unreached, &s, &[2])?);
+    assert_eq!(rt;
+        legal_without_b(rt.alloc(), Kind::Unneeded, b"b")?,
+        Some(false)
+    );
+    assert_eq!(rt;
+        legal_without_b(rt.alloc(), Kind::Unreached, b"c")?,
+        Some(true)
+    );
     Ok(())
 }
 
-/// Definitions of four predicates: b is its second parameter, and the others have none.
-fn one_defined(alloc: Global) -> Result<Defs, NoMemory> {
+/// The sorts Int and Bool.
+fn params(alloc: Global) -> Result<List<Sort>, NoMemory> {
     let mut params = List::new(alloc);
     params.push(Sort::Int)?;
     params.push(Sort::Bool)?;
+    Ok(params)
+}
+
+/// The list of one definition, which is its second parameter.
+fn second_parameter(alloc: Global) -> Result<List<Def>, NoMemory> {
+    let params = params(alloc)?;
     let mut list = List::new(alloc);
     list.push(Def {
         params,
         result: Sort::Bool,
         body: Term::Var(1),
     })?;
+    Ok(list)
+}
+
+/// Which definition each of four predicates has: b the first, and the others none.
+fn second_has_first(alloc: Global) -> Result<List<Option<u64>>, NoMemory> {
     let mut of = List::new(alloc);
-    for o in [None, Some(0), None, None] {
-        of.push(o)?;
-    }
+    of.push(None)?;
+    of.push(Some(0))?;
+    of.push(None)?;
+    of.push(None)?;
+    Ok(of)
+}
+
+/// Definitions of four predicates: b is its second parameter, and the others have none.
+fn one_defined(alloc: Global) -> Result<Defs, NoMemory> {
+    let list = second_parameter(alloc)?;
+    let of = second_has_first(alloc)?;
     Ok(Defs { list, of })
+}
+
+/// The truth value that a term is, if it is one.
+fn truth_of(term: &Term) -> Option<bool> {
+    match term {
+        Term::Lit(b) => Some(*b),
+        _ => None,
+    }
 }
 
 /// How many parameters the definition of that number has, and its truth value if it is one.
 fn told(d: &Defs, number: u64) -> (usize, Option<bool>) {
     match d.list.get(number as usize) {
-        Some(def) => {
-            let truth = match def.body {
-                Term::Lit(b) => Some(b),
-                _ => None,
-            };
-            (def.params.len(), truth)
-        }
+        Some(def) => (def.params.len(), truth_of(&def.body)),
         None => (0, None),
     }
 }
 
 /// Of each predicate the number of its definition, the parameters and the truth value.
-type Told = Option<(u64, (usize, Option<bool>))>;
+type Told = Option<(u64, usize, Option<bool>)>;
 
 /// What the definitions say of the predicate.
 fn told_of(d: &Defs, p: usize) -> Told {
     match d.of.get(p) {
-        Some(Some(number)) => Some((*number, told(d, *number))),
+        Some(Some(number)) => {
+            let (count, truth) = told(d, *number);
+            Some((*number, count, truth))
+        }
         _ => None,
     }
+}
+
+/// Whether the definitions say that of the predicate.
+fn is_told(d: &Defs, p: usize, wanted: Told) -> bool {
+    told_of(d, p) == wanted
+}
+
+/// Whether b has its definition, and a and d constants of that truth value after it.
+fn are_constants(d: &Defs, truth: bool) -> bool {
+    d.list.len() == 3
+        && is_told(d, 0, Some((1, 2, Some(truth))))
+        && is_told(d, 1, Some((0, 2, None)))
+        && is_told(d, 2, None)
+        && is_told(d, 3, Some((2, 2, Some(truth))))
+}
+
+/// Two positions of Int.
+fn pair(alloc: Global) -> Result<List<Sort>, NoMemory> {
+    let mut sorts = List::new(alloc);
+    sorts.push(Sort::Int)?;
+    sorts.push(Sort::Int)?;
+    Ok(sorts)
 }
 
 /// Four predicates with two positions, all live.
 fn pairs(alloc: Global) -> Result<List<PredDecl>, NoMemory> {
     let mut preds = List::new(alloc);
     for _ in 0..4 {
-        let mut sorts = List::new(alloc);
-        sorts.push(Sort::Int)?;
-        sorts.push(Sort::Int)?;
+        let sorts = pair(alloc)?;
         preds.push(PredDecl { sorts, live: true })?;
     }
     Ok(preds)
@@ -424,31 +521,42 @@ fn are_below(numbers: &List<u32>, count: usize) -> bool
 }
 
 /// The definitions before the step of the kind that removed these predicates, if all of them have a place.
-fn back_over(alloc: Global, kind: Kind, ps: &List<u32>, d: Defs) -> Result<Option<Defs>, NoMemory> {
-    let preds = pairs(alloc)?;
+fn back_over(
+    alloc: Global,
+    kind: Kind,
+    preds: &List<PredDecl>,
+    ps: &List<u32>,
+    d: Defs,
+) -> Result<Option<Defs>, NoMemory> {
     if !are_below(ps, d.of.len()) {
         return Ok(None);
     }
     let before = match kind {
-        Kind::Unreached => unreached::back_defs(alloc, &preds, ps, d)?,
-        Kind::Unneeded => unneeded::back_defs(alloc, &preds, ps, d)?,
+        Kind::Unreached => unreached::back_defs(alloc, preds, ps, d)?,
+        Kind::Unneeded => unneeded::back_defs(alloc, preds, ps, d)?,
     };
     Ok(Some(before))
 }
 
+/// The definitions before the step of the kind that removed a and d.
+fn before_step(alloc: Global, kind: Kind) -> Result<Option<Defs>, NoMemory> {
+    let preds = pairs(alloc)?;
+    let ps = numbers_of(alloc, b"ad")?;
+    let defined = one_defined(alloc)?;
+    back_over(alloc, kind, &preds, &ps, defined)
+}
+
+/// Whether a and d are constants of that truth value before the step of the kind that removed them.
+fn are_constants_before(alloc: Global, kind: Kind, truth: bool) -> Result<bool, NoMemory> {
+    match before_step(alloc, kind)? {
+        Some(d) => Ok(are_constants(&d, truth)),
+        None => Ok(false),
+    }
+}
+
 #[test]
 fn removed_predicates_are_constants(rt: HostRuntime) -> Result<(), Fail> {
-    let alloc = rt.alloc();
-    let rows = [(Kind::Unreached, false), (Kind::Unneeded, true)];
-    for (kind, truth) in rows {
-        let ps = list_of(alloc, &[0, 3])?;
-        let before = back_over(alloc, kind, &ps, one_defined(alloc)?)?;
-        let d = before.expect(&rt, "definitions");
-        assert_eq!(rt; d.list.len(), 3);
-        assert_eq!(rt; told_of(&d, 0), Some((1, (2, Some(truth)))));
-        assert_eq!(rt; told_of(&d, 1), Some((0, (2, None))));
-        assert_eq!(rt; told_of(&d, 2), None);
-        assert_eq!(rt; told_of(&d, 3), Some((2, (2, Some(truth)))));
-    }
+    assert!(rt; are_constants_before(rt.alloc(), Kind::Unreached, false)?);
+    assert!(rt; are_constants_before(rt.alloc(), Kind::Unneeded, true)?);
     Ok(())
 }

@@ -19,11 +19,11 @@ use super::print;
 use super::reading::{read_model, read_script, read_trace};
 use super::replay::{ReplayErr, replay};
 use ans_model::defs_text;
-use chc_script::{Names, Script};
+use chc_script::Script;
 use chc_sexpr::{TextErr, TextFault};
 use chc_sorts::{List, NoMemory};
 use chc_source::ByteText;
-use chc_state::{Defs, State, Step};
+use chc_state::{Defs, Names, State, Step};
 use chc_trace::{Trace, digest};
 use std::alloc::Global;
 
@@ -112,7 +112,6 @@ struct Printed {
 
 /// The state that the steps lead to, with its text.
 fn reprint(alloc: Global, script: &Script, steps: &[Step]) -> Result<Printed, LiftErr>
-    requires { script.now.state.sig ≡ no_datatypes }
     ensures goes { IfOk result (λ p. Goes script.now.state steps.now p.state) }
     ensures printed { IfOk result (λ p. IsOnlyText p.state script.now.names p.text) }
     ensures refused { IfErr result (IsStepsErr script.now.state steps.now) }
@@ -150,7 +149,6 @@ fn is_target(text: &ByteText, target: &ByteText) -> bool
 
 /// Replays the trace on the script of these bytes, and gives the state that it leads to.
 fn follow(alloc: Global, bytes: &[u8], script: &Script, trace: Trace) -> Result<Followed, LiftErr>
-    requires { script.now.state.sig ≡ no_datatypes }
     ensures steps { IfOk result (λ f. f.steps ≡ trace.steps) }
     ensures belongs { IfOk result (λ f. Belongs bytes.now script.now.names script.now.state trace f.state) }
     ensures refused { IfErr result (IsTraceRefusal bytes.now script.now trace) }
@@ -212,7 +210,6 @@ fn carry(
 
 /// The text of definitions of the script's predicates.
 fn print_model(alloc: Global, script: &Script, defs: &Defs) -> Result<Lifted, NoMemory>
-    requires plain { script.now.state.sig ≡ no_datatypes }
     requires named { length script.now.names ≡ length script.now.state.preds }
     requires names { AreNames script.now.names }
     requires defines { Defines defs.now script.now.state }

@@ -7,11 +7,12 @@ ghost use Rattle.chc_jobs.specs.Lifting.{SaysOnly, IsModel};
 ghost use Rattle.chc_jobs.specs.LiftFaults.{SaysNoTrace, SaysNoModel};
 
 use ans_model::read_defs;
-use chc_script::{Names, Script, read_first};
+use chc_script::Script;
 use chc_sexpr::{Fault, TextErr, TextFault};
 use chc_source::ByteText;
-use chc_state::{Defs, State};
+use chc_state::{Defs, Names, State};
 use chc_trace::Trace;
+use first_script::read_first;
 use std::alloc::Global;
 
 /// The fault of a text that this version doesn't read.

@@ -1,11 +1,10 @@
-use Rattle.std.proofs.Common.{rules, ◌≡◌, ◌<◌, ◌≤◌, ◌+◌, ◌^◌, ◌++◌, ◌∷◌, [], ℕ, List, length, ap, sym, subst, ◌∙◌, arith, drop, None, Some, Option}
+use Rattle.std.proofs.Common.{◌≡◌, ◌++◌, ◌∷◌, [], List, length, ap, sym, subst, ◌∙◌, arith, None, Some}
 use Rattle.chc_sorts.specs.declared.sort.Sort.{Sort}
-use Rattle.ans_model.specs.Bodies.{beside, operation, group_term, typed_all, typed_of, applied, quantified_under, quantified_over, quantified}
+use Rattle.ans_model.specs.Bodies.{typed_of, quantified_under, quantified_over, quantified}
 use Rattle.ans_model.specs.Counts.{count, count_all}
 use Rattle.chc_sexpr.specs.Readings.{Gives, ◌>>=◌}
 use Rattle.ans_model.specs.Scopes.{Binder, flat, sorts_in}
-use Rattle.ans_model.specs.declared.typed.Typed.{Typed}
-use Rattle.ans_model.proofs.Reading.{flat-push, length-push, count_at, count_two, binders_room, operation_read, operation_unread, turned_read, turned_unread}
+use Rattle.ans_model.proofs.Reading.{flat-push, count_at, count_two, operation_read, operation_unread, turned_read, turned_unread}
 use Rattle.ans_model.proofs.Room.{room_group, room_one, room_body, room_under}
 use Rattle.ans_model.proofs.TypedLaws.{count-Group}
 use Rattle.ans_model.proofs.body.+typed.Goals as goal

@@ -2,7 +2,6 @@ use Rattle.std.proofs.Common.{◌-◌, sym, ap, subst, ◌∙◌, IsTrue}
 use Rattle.chc_terms.specs.declared.term.Term.{Term}
 use Rattle.chc_terms.specs.Counts.{size, depth}
 use Rattle.chc_terms.specs.Shifted.{can_shift}
-use Rattle.chc_terms.proofs.ShiftKeeps.{shift_keeps_counts}
 use Rattle.chc_elab.proofs.Reaches.{shifts}
 use Rattle.chc_elab.proofs.reading.moved_under.Goals as goal
 
@@ -13,12 +12,8 @@ shift-requires c =
 
 pub of-requires-clause-sized : goal.of-requires-clause-sized
 of-requires-clause-sized c =
-    let up = c.args.variables - c.args.bound.now.under in
-    c.size.ensures.value
-    ∙ sym (ap size c.in_ok-moved.ensures ∙ (shift_keeps_counts c.term.result.now c.args.bound.now.under up).0 ∙ ap size c.term.ensures)
+    c.size.ensures.value ∙ sym (c.in_ok-moved.ensures.keeps.same_size ∙ ap size c.term.ensures)
 
 pub of-requires-clause-deep : goal.of-requires-clause-deep
 of-requires-clause-deep c =
-    let up = c.args.variables - c.args.bound.now.under in
-    c.depth.ensures.value
-    ∙ sym (ap depth c.in_ok-moved.ensures ∙ (shift_keeps_counts c.term.result.now c.args.bound.now.under up).1 ∙ ap depth c.term.ensures)
+    c.depth.ensures.value ∙ sym (c.in_ok-moved.ensures.keeps.same_depth ∙ ap depth c.term.ensures)

@@ -2,9 +2,9 @@ use Rattle.std.proofs.Common.{◌≡◌, length, sym, ap, ◌∙◌, subst, arit
 use Rattle.chc_state.specs.declared.step.Step.TheVariants as step
 use Rattle.chc_state.specs.States.{StateView, uses_live}
 use Rattle.chc_state.specs.Limits.{first_passed}
-use Rattle.chc_state.specs.Sorts.{are_sorted}
+use Rattle.chc_state.specs.WellFormed.{are_well_formed}
 use Rattle.chc_state.specs.Steps.{body_meets, after, Applies}
-use Rattle.pass_slice.proofs.Removing.{applies, uses_live-after, are_sorted-after}
+use Rattle.pass_slice.proofs.Removing.{applies, uses_live-after, are_formed-after}
 use Rattle.pass_slice.proofs.Taking.{left_is, length-after}
 use Rattle.pass_slice.proofs.unreached.apply.Goals as goal
 use Rattle.pass_slice.proofs.unreached.apply.Goals.{After-retire}
@@ -53,13 +53,13 @@ of_parts-requires-clause-within c =
     let same = is (goal.at.of_parts-requires-clause-within c).After-retire in
     ap (λ (z : StateView). first_passed z.preds z.clauses) same ∙ c.requires.within
 
-pub of_parts-requires-clause-sorted : goal.of_parts-requires-clause-sorted
+pub of_parts-requires-clause-formed : goal.of_parts-requires-clause-formed
 unfolding was left
-of_parts-requires-clause-sorted c =
+of_parts-requires-clause-formed c =
     let x = step.Unreached c.args.ps.now in
-    let same = is (goal.at.of_parts-requires-clause-sorted c).After-retire in
-    ap (λ (z : StateView). are_sorted z.sig z.preds z.clauses) same
-    ∙ are_sorted-after c.args.s x (ap (λ (z : StateView). are_sorted z.sig z.preds z.clauses) (sym c.into_parts-sig.ensures.value) ∙ c.into_parts-sig.ensures.sorted)
+    let same = is (goal.at.of_parts-requires-clause-formed c).After-retire in
+    ap (λ (z : StateView). are_well_formed z.sig z.preds z.clauses) same
+    ∙ are_formed-after c.args.s x (ap (λ (z : StateView). are_well_formed z.sig z.preds z.clauses) (sym c.into_parts-sig.ensures.value) ∙ c.into_parts-sig.ensures.formed)
 
 pub returns-clause-applied : goal.returns-clause-applied
 unfolding was left

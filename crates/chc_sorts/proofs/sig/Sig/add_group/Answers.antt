@@ -11,7 +11,7 @@ use Rattle.std.proofs.lemmas.Result.{err_from_is_err_and}
 use Rattle.chc_sorts.specs.declared.refusal.SigErr.{SigErr}
 use Rattle.chc_sorts.specs.Groups.{first_refusal, names_with, data_declared, AddsGroup}
 use Rattle.chc_sorts.specs.Checks.{Checks, HaveSameNames}
-use Rattle.chc_sorts.proofs.AddLaws.{kept_along, kept_after, refusal_same, refused_by_check, refused_late, no_refusal, few_datatypes, narrow_datatypes, fresh_functions}
+use Rattle.chc_sorts.proofs.AddLaws.{kept_along, kept_after, refusal_same, refused_by_check, refused_late, no_refusal, few_datatypes, length_names_with, narrow_datatypes, fresh_functions}
 use Rattle.chc_sorts.proofs.sig.Sig.add_group.Goals as goal
 
 pub returns-in_err-names : goal.returns-in_err-names
@@ -88,6 +88,7 @@ invariant_of-self-2 c =
     (subst (λ (l : List Data). AllInhabited (old.datatypes ++ l)) made g.0) (g.1 ∙ ap (λ (l : List Data). old.datatypes ++ l) made) (g.3 ∙ ap (λ (l : List Data). old.functions ++ each_from rows_of (length old.datatypes) l) made)
     c.self.invariant.tabled (c.in_ok-names.ensures.1 ∙ ap (λ (q : Signature). names_with q group) (sym c.self.view_is))
     c.self.invariant.narrow (narrow_datatypes sig group (names_with sig group) (no_refusal sig group c.in_ok-preds.preds none).1)
+    c.self.invariant.known (let n = length_names_with sig group in omega arith)
 
 pub returns : goal.returns
 returns c =

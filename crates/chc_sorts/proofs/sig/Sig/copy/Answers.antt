@@ -5,6 +5,7 @@ use Rattle.chc_sorts.specs.declared.data.Data.{Data}
 use Rattle.chc_sorts.specs.declared.meaning.Meaning.{Meaning}
 use Rattle.chc_sorts.specs.Signature.{AllInhabited}
 use Rattle.chc_sorts.specs.Functions.{functions}
+use Rattle.chc_sorts.specs.WellFounded.{are_fields_known}
 use Rattle.chc_sorts.specs.Kept.{IsKept, most_datatypes}
 use Rattle.chc_sorts.proofs.sig.Sig.copy.Goals as goal
 
@@ -12,6 +13,7 @@ kept_along : (datatypes copies : List Data) (groups sizes : List ℕ) (names mor
     → IsKept (record { datatypes = datatypes; groups = groups }) names rows → IsKept (record { datatypes = copies; groups = sizes }) more others
 kept_along datatypes copies groups sizes names more rows others same named tabled k = record {
   inhabited = subst AllInhabited (sym same) k.inhabited;
+  known = ap (λ (l : List Data). are_fields_known (record { datatypes = l; groups = sizes })) same ∙ k.known;
   few = subst (λ (l : List Data). length l ≤ most_datatypes) (sym same) k.few;
   narrow = ap (list_all is_narrow) same ∙ k.narrow;
   named = named ∙ k.named ∙ ap (λ (l : List Data). map (λ (t : Data). t.name) l) (sym same);

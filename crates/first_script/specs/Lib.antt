@@ -1,0 +1,5 @@
+pub mod Clauses
+pub mod Names
+pub mod FirstScripts
+pub mod Terms
+pub mod Made
