@@ -4,3 +4,12 @@ pub mod Horn
 pub mod HornLaws
 pub mod Marks
 pub mod Fronts
+pub mod Inhabited
+pub mod LimitNames
+pub mod Datatypes
+pub mod Drafts
+pub mod Commands
+pub mod Asserts
+pub mod Spellable
+pub mod Drafted
+pub mod WholeScripts

@@ -10,8 +10,6 @@ mod parts;
 mod prefix;
 mod quantified;
 mod refusal;
-#[cfg(test)]
-mod shown;
 mod side;
 #[cfg(test)]
 mod tests;

@@ -1,7 +1,7 @@
 //! Clauses of assertions.
 
-use crate::horn::shown::show_clause;
 use crate::horn::{HornErr, clause_of};
+use crate::shown::show_clause;
 use chc_sorts::{Boxed, List, NoMemory, Op, Sort};
 use chc_source::ByteText;
 use chc_terms::{Kind, Term, Terms};

@@ -1,27 +1,24 @@
-//! Clauses as short texts, for tests.
+//! Clauses as text, for tests: variables, weight, conditions, body atoms and head.
 
-use chc_sorts::{NoMemory, Op};
+use chc_sorts::{NoMemory, name_of};
 use chc_source::ByteText;
 use chc_state::{Atom, Clause};
-use chc_terms::{Term, Terms};
+use chc_terms::{Kind, Term, Terms};
 use std::alloc::Global;
 
-fn name_of(op: &Op) -> &'static [u8] {
-    match op {
-        Op::Le => b"<=",
-        Op::Not => b"not",
-        Op::And => b"and",
-        Op::Or => b"or",
-        _ => b"?",
-    }
-}
-
 #[cycle(show)]
-fn show_terms(alloc: Global, out: &mut ByteText, terms: &Terms) -> Result<(), NoMemory> {
-    for term in terms.as_slice() {
-        show_term(alloc, out, term)?;
+fn show_applied(
+    alloc: Global,
+    out: &mut ByteText,
+    head: &[u8],
+    args: &Terms,
+) -> Result<(), NoMemory> {
+    out.extend(b" (")?;
+    out.extend(head)?;
+    for arg in args.as_slice() {
+        show_term(alloc, out, arg)?;
     }
-    Ok(())
+    out.push(b')')
 }
 
 #[cycle(show)]
@@ -30,14 +27,28 @@ fn show_term(alloc: Global, out: &mut ByteText, term: &Term) -> Result<(), NoMem
         Term::Var(number) => out.extend(format!(in alloc; " x{number}")?.as_bytes()),
         Term::Num(number) => out.extend(format!(in alloc; " {number}")?.as_bytes()),
         Term::Lit(truth) => out.extend(format!(in alloc; " {truth}")?.as_bytes()),
-        Term::App(op, args) => {
-            out.extend(b" (")?;
-            out.extend(name_of(op))?;
-            show_terms(alloc, out, args)?;
+        Term::App(op, args) => match name_of(op) {
+            Some(name) => show_applied(alloc, out, name, args),
+            None => out.extend(b" ?"),
+        },
+        Term::Pred(pred, args) => {
+            show_applied(alloc, out, format!(in alloc; "p{pred}")?.as_bytes(), args)
+        }
+        Term::Quant(Kind::Forall, sorts, body) => {
+            let vars = sorts.len();
+            out.extend(format!(in alloc; " (forall {vars}")?.as_bytes())?;
+            show_term(alloc, out, body.get())?;
             out.push(b')')
         }
         _ => out.push(b'?'),
     }
+}
+
+fn show_terms(alloc: Global, out: &mut ByteText, terms: &Terms) -> Result<(), NoMemory> {
+    for term in terms.as_slice() {
+        show_term(alloc, out, term)?;
+    }
+    Ok(())
 }
 
 fn show_atom(alloc: Global, out: &mut ByteText, atom: &Atom) -> Result<(), NoMemory> {
@@ -47,7 +58,7 @@ fn show_atom(alloc: Global, out: &mut ByteText, atom: &Atom) -> Result<(), NoMem
     out.push(b')')
 }
 
-/// Writes the clause: the number of its variables, its weight, its constraints, its body atoms and its head.
+/// Adds a line for a clause.
 pub(crate) fn show_clause(
     alloc: Global,
     out: &mut ByteText,

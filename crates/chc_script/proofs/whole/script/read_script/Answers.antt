@@ -1,0 +1,20 @@
+use Rattle.std.proofs.Common.{arith, ap}
+use Rattle.std.proofs.lemmas.Result.{err_from_is_err_and}
+use Rattle.chc_sexpr.specs.Counts.{count_all}
+use Rattle.chc_script.proofs.ScriptFaults.{unspelled_fault}
+use Rattle.chc_script.proofs.SpelledTrees.{trees_within, trees_spellable}
+use Rattle.chc_script.proofs.whole.script.read_script.Goals as goal
+
+pub read_commands-requires-clause-few : goal.read_commands-requires-clause-few
+read_commands-requires-clause-few c =
+    let few = trees_within c.args.bytes.now c.in_ok-trees.trees c.in_ok-trees.ensures.0 in
+    let same = ap count_all c.as_slice.ensures in
+    omega (arith, few, same, c.requires)
+
+pub read_commands-requires-clause-spellable : goal.read_commands-requires-clause-spellable
+read_commands-requires-clause-spellable c = rw c.as_slice.ensures (trees_spellable c.args.bytes.now c.in_ok-trees.trees c.in_ok-trees.ensures.0)
+
+pub returns-in_err-trees-clause-reading : goal.returns-in_err-trees-clause-reading
+returns-in_err-trees-clause-reading c =
+    let p = err_from_is_err_and c.from_residual.result c.from_residual.ensures.1 in
+    rw (p.1, p.2) (unspelled_fault c.first_fault_is_one.ensures c.args.bytes.now c.in_err-trees.field-0.0 c.in_err-trees.ensures)
