@@ -12,4 +12,4 @@ pub use horn::{
     truth_is_kept,
 };
 pub use script::Script;
-pub use whole::read_script;
+pub use whole::{first_empty_is_found, read_script};

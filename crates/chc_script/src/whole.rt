@@ -13,6 +13,7 @@ mod refused;
 mod script;
 mod taken;
 
+pub use refused::first_empty_is_found;
 pub use script::read_script;
 
 #[cfg(test)]

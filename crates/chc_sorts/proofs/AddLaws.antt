@@ -19,6 +19,7 @@ use Rattle.chc_sorts.specs.Signature.{AllInhabited}
 use Rattle.chc_sorts.specs.Names.{has_name, each_from}
 use Rattle.chc_sorts.specs.Functions.{functions, function_names}
 use Rattle.chc_sorts.specs.Kept.{IsKept}
+use Rattle.chc_sorts.specs.Made.{CanBeMade}
 use Rattle.std.proofs.lemmas.List.{length-map, length-append}
 use Rattle.std.proofs.lemmas.List.Folds.{list_all-append}
 use Rattle.chc_sorts.specs.declared.data.Field.{Field}
@@ -212,8 +213,10 @@ pub kept_after : (ds es : List Data) (gs hs : List ℕ) (rows rows' : List (List
     → rows ≡ functions (record { datatypes = ds; groups = gs }) → table ≡ names_with (record { datatypes = ds; groups = gs }) group
     → list_all is_narrow ds ≡ true → list_all is_narrow (map (data_declared names) group) ≡ true
     → are_fields_known (record { datatypes = ds; groups = gs }) ≡ true → length names ≤ length ds + length group
+    → CanBeMade (record { datatypes = es; groups = hs })
     → IsKept (record { datatypes = es; groups = hs }) table rows'
-kept_after ds es gs hs rows rows' group names table few all e r old t before behind fields enough = record {
+kept_after ds es gs hs rows rows' group names table few all e r old t before behind fields enough made = record {
+  made = made;
   inhabited = subst AllInhabited (sym e) all;
   known = known_with_group ds es gs hs names group e enough fields;
   few = omega (arith, ap length e, length-append ds (map (data_declared names) group), length-map group (data_declared names));

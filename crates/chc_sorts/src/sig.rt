@@ -9,6 +9,7 @@ ghost use Rattle.chc_sorts.specs.Listing.{is_narrow};
 ghost use Rattle.chc_sorts.specs.WellFounded.{IsWellFounded};
 ghost use Rattle.chc_sorts.specs.Named.{Answers, datatype_names, sort_read};
 ghost use Rattle.chc_sorts.specs.Groups.{AddsGroup};
+ghost use Rattle.chc_sorts.specs.Made.{CanBeMade};
 
 use crate::build::declared;
 use crate::data::{Data, copy_datatypes};
@@ -77,6 +78,13 @@ impl Sig {
     /// of the signature has a value.
     pub fn well_founded(&self)
         ensures { IsWellFounded self.now }
+    {
+        let _datatypes = &self.datatypes;
+    }
+
+    /// The groups have made the signature, one after the other: nothing stood against any of them.
+    pub fn made_of_groups(&self)
+        ensures { CanBeMade self.now }
     {
         let _datatypes = &self.datatypes;
     }

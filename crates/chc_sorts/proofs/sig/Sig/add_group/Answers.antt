@@ -9,8 +9,10 @@ use Rattle.chc_sorts.specs.Listing.{AreFresh, names_of, data_names, rows_of, is_
 use Rattle.std.specs.Prelude.{⊤}
 use Rattle.std.proofs.lemmas.Result.{err_from_is_err_and}
 use Rattle.chc_sorts.specs.declared.refusal.SigErr.{SigErr}
-use Rattle.chc_sorts.specs.Groups.{first_refusal, names_with, data_declared, AddsGroup}
+use Rattle.chc_sorts.specs.Groups.{first_refusal, names_with, data_declared, with_group, AddsGroup}
 use Rattle.chc_sorts.specs.Checks.{Checks, HaveSameNames}
+use Rattle.chc_sorts.specs.Made.{IsMade, CanBeMade}
+use Rattle.std.proofs.Math.Logic.{∥∥₁_map}
 use Rattle.chc_sorts.proofs.AddLaws.{kept_along, kept_after, refusal_same, refused_by_check, refused_late, no_refusal, few_datatypes, length_names_with, narrow_datatypes, fresh_functions}
 use Rattle.chc_sorts.proofs.sig.Sig.add_group.Goals as goal
 
@@ -84,11 +86,18 @@ invariant_of-self-2 c =
     let g = c.in_ok-extend.ensures.grows in
     let few = few_datatypes sig group (no_refusal sig group c.in_ok-preds.preds none).1 in
     let same : length old.datatypes ≡ length sig.datatypes = ap (λ (s : Signature). length s.datatypes) c.self.view_is in
+    let preds_same : HaveSameNames c.in_ok-preds.preds preds = subst (λ (l : List (List ℕ)). HaveSameNames c.in_ok-preds.preds l) c.as_slice.ensures c.in_ok-preds.ensures in
+    let free = sym (refusal_same sig group preds c.in_ok-preds.preds preds_same) ∙ none in
+    let joined = ap (λ (l : List Data). old.datatypes ++ l) made ∙ ap (λ (q : Signature). q.datatypes ++ map (data_declared (names_with sig group)) group) c.self.view_is in
+    let sizes = g.2 ∙ ap (λ (n : ℕ). old.groups ++ n ∷ []) (ap length made ∙ length-map group (data_declared (names_with sig group))) ∙ ap (λ (q : Signature). q.groups ++ length group ∷ []) c.self.view_is in
+    let whole = g.1 ∙ joined in
+    let step : CanBeMade (with_group sig group) = ∥∥₁_map (subst CanBeMade c.self.view_is c.self.invariant.made) (λ (m : IsMade sig). IsMade.more sig group preds m free (subst AllInhabited joined g.0)) in
     kept_after old.datatypes c.extend.new.datatypes old.groups c.extend.new.groups old.functions c.extend.new.functions group (names_with sig group) c.in_ok-names.names (omega arith)
     (subst (λ (l : List Data). AllInhabited (old.datatypes ++ l)) made g.0) (g.1 ∙ ap (λ (l : List Data). old.datatypes ++ l) made) (g.3 ∙ ap (λ (l : List Data). old.functions ++ each_from rows_of (length old.datatypes) l) made)
     c.self.invariant.tabled (c.in_ok-names.ensures.1 ∙ ap (λ (q : Signature). names_with q group) (sym c.self.view_is))
     c.self.invariant.narrow (narrow_datatypes sig group (names_with sig group) (no_refusal sig group c.in_ok-preds.preds none).1)
     c.self.invariant.known (let n = length_names_with sig group in omega arith)
+    (subst CanBeMade (sym (λ i. record { datatypes = whole i; groups = sizes i })) step)
 
 pub returns : goal.returns
 returns c =
