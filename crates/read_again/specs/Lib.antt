@@ -1,1 +1,9 @@
 pub mod Again
+pub mod ClauseCounts
+pub mod ClauseLaws
+pub mod ClauseTerms
+pub mod FirstGroups
+pub mod LivePredicates
+pub mod PrintedScripts
+pub mod Terms
+pub mod UsedDatatypes
