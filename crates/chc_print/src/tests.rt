@@ -1,143 +1,50 @@
 //! Texts of names, prefixes, clauses, scripts, terms and values, and how far operators reach.
 
 mod examples;
+mod words;
 
 use crate::naming::Naming;
 use crate::prefix::prefix_beside;
 use crate::reach::op_reach;
 use crate::script::{write_clauses, write_declarations};
 use crate::{script_text, term_text, value_text};
-use chc_sorts::{
-    Boxed, CtorSpec, DataSpec, FieldSpec, List, Name, NoMemory, Op, Sig, SigErr, Sort, SortSpec,
-};
+use chc_sorts::{Boxed, List, NoMemory, Op, Sig, SigErr, Sort};
 use chc_source::ByteText;
-use chc_state::{Atom, Clause, PredDecl, State, positions_fit};
-use chc_terms::{Kind, Term, Terms};
+use chc_state::{Clause, PredDecl, State, positions_fit};
+use chc_terms::{Kind, Term};
 use chc_values::{Entries, Value};
 use std::alloc::Global;
 use std::test::Fail;
+use words::{Piece, clauses, group, names, preds, sorts, terms};
 
-/// The name of those bytes.
-fn name(alloc: Global, bytes: &[u8]) -> Result<Name, NoMemory> {
-    let mut name = List::new(alloc);
-    for b in bytes {
-        name.push(*b)?;
-    }
-    Ok(name)
+/// Three clauses: from `x0 <= -5` follows the atom on x0; from the atom on x0 and `x1 = x0 + 1` that on x1; and a query
+/// without variables, body or conjuncts.
+fn three_clauses(alloc: Global) -> Result<List<Clause>, NoMemory> {
+    clauses(
+        alloc,
+        &[
+            [b"I", b"amL", b"", b"0a"],
+            [b"II", b"ba1+=", b"0a", b"0b"],
+            [b"", b"", b"", b""],
+        ],
+    )
 }
 
-/// The names of those bytes.
-fn names(alloc: Global, all: &[&[u8]]) -> Result<List<Name>, NoMemory> {
-    let mut names = List::new(alloc);
-    for bytes in all {
-        names.push(name(alloc, bytes)?)?;
-    }
-    Ok(names)
-}
-
-/// A list of one element.
-fn one(alloc: Global, term: Term) -> Result<Terms, NoMemory> {
-    let mut terms = List::new(alloc);
-    terms.push(term)?;
-    Ok(terms)
-}
-
-/// An operator on two terms.
-fn pair(alloc: Global, op: Op, a: Term, b: Term) -> Result<Term, NoMemory> {
-    let mut arguments = one(alloc, a)?;
-    arguments.push(b)?;
-    Ok(Term::App(op, arguments))
-}
-
-/// An atom of the predicate 0 on a variable.
-fn atom(alloc: Global, i: u32) -> Result<Atom, NoMemory> {
-    Ok(Atom {
-        pred: 0,
-        args: one(alloc, Term::Var(i))?,
-    })
-}
-
-/// A list of so many Ints.
-fn ints(alloc: Global, count: usize) -> Result<List<Sort>, NoMemory> {
-    let mut sorts = List::new(alloc);
-    for _ in 0..count {
-        sorts.push(Sort::Int)?;
-    }
-    Ok(sorts)
-}
-
-/// A declared predicate over one Int.
-fn declared(alloc: Global, live: bool) -> Result<PredDecl, NoMemory> {
-    Ok(PredDecl {
-        sorts: ints(alloc, 1)?,
-        live,
-    })
-}
-
-/// Predicates over one Int, of which the second isn't live.
-fn three_preds(alloc: Global) -> Result<List<PredDecl>, NoMemory> {
-    let mut preds = List::new(alloc);
-    preds.push(declared(alloc, true)?)?;
-    preds.push(declared(alloc, false)?)?;
-    preds.push(declared(alloc, true)?)?;
-    Ok(preds)
-}
-
-/// From `x0 <= -5` follows the atom on x0.
-fn start(alloc: Global) -> Result<Clause, NoMemory> {
-    let low = pair(alloc, Op::Le, Term::Var(0), Term::Num(-5))?;
-    Ok(Clause {
-        vars: ints(alloc, 1)?,
-        conj: one(alloc, low)?,
-        body: List::new(alloc),
-        head: Some(atom(alloc, 0)?),
-        weight: 1,
-    })
-}
-
-/// From the atom on x0 and `x1 = x0 + 1` follows the atom on x1.
-fn step(alloc: Global) -> Result<Clause, NoMemory> {
-    let next = pair(alloc, Op::Add, Term::Var(0), Term::Num(1))?;
-    let mut body = List::new(alloc);
-    body.push(atom(alloc, 0)?)?;
-    Ok(Clause {
-        vars: ints(alloc, 2)?,
-        conj: one(alloc, pair(alloc, Op::Eq, Term::Var(1), next)?)?,
-        body,
-        head: Some(atom(alloc, 1)?),
-        weight: 1,
-    })
-}
-
-/// A query without variables, body or conjuncts.
-fn query(alloc: Global) -> Result<Clause, NoMemory> {
-    Ok(Clause {
-        vars: List::new(alloc),
-        conj: List::new(alloc),
-        body: List::new(alloc),
-        head: None,
-        weight: 1,
-    })
-}
-
-/// The lines of those predicates and clauses.
+/// The lines of predicates over one Int, of which the second isn't live, and of the three clauses.
 fn lines(alloc: Global) -> Result<ByteText, NoMemory> {
     let sig = Sig::new(alloc);
-    let preds = names(alloc, &[b"inv", b"dead", b"let"])?;
+    let called = names(alloc, &[b"inv", b"dead", b"let"])?;
     let calls = List::new(alloc);
     let naming = Naming {
         sig: &sig,
-        preds: &preds,
+        preds: &called,
         calls: &calls,
         prefix: b"x",
     };
-    let mut clauses = List::new(alloc);
-    clauses.push(start(alloc)?)?;
-    clauses.push(step(alloc)?)?;
-    clauses.push(query(alloc)?)?;
     let mut out = ByteText::new(alloc);
-    write_declarations(&mut out, &naming, three_preds(alloc)?.as_slice())?;
-    write_clauses(&mut out, &naming, clauses.as_slice())?;
+    let declared = preds(alloc, &[(b"I", true), (b"I", false), (b"I", true)])?;
+    write_declarations(&mut out, &naming, declared.as_slice())?;
+    write_clauses(&mut out, &naming, three_clauses(alloc)?.as_slice())?;
     Ok(out)
 }
 
@@ -182,104 +89,30 @@ fn prefixes_beside_names(rt: HostRuntime) {
     }
 }
 
-/// The sort of that name, as it is written.
-fn sort_named(alloc: Global, bytes: &[u8]) -> Result<SortSpec, NoMemory> {
-    Ok(SortSpec::Named(name(alloc, bytes)?))
-}
+/// Lists and the datatype `a b`, whose fields are of each other; and behind them a datatype whose constructor begins like
+/// a variable's name.
+const GROUPS: [&[Piece<'static>]; 2] = [
+    &[
+        (b'T', b"list", b""),
+        (b'C', b"nil", b""),
+        (b'C', b"cons", b""),
+        (b'F', b"head", b"a b"),
+        (b'F', b"tail", b"list"),
+        (b'T', b"a b", b""),
+        (b'C', b"get-value", b""),
+        (b'A', b"let", b"list"),
+    ],
+    &[(b'T', b"last", b""), (b'C', b"x0", b"")],
+];
 
-/// An array over that sort, as it is written.
-fn array_of(alloc: Global, element: &[u8]) -> Result<SortSpec, NoMemory> {
-    let index = Boxed::new(alloc, sort_named(alloc, b"Int")?)?;
-    Ok(SortSpec::Array(index, Boxed::new(alloc, sort_named(alloc, element)?)?))
-}
-
-/// Adds a field of that name and sort.
-fn add_field(
-    alloc: Global,
-    fields: &mut List<FieldSpec>,
-    bytes: &[u8],
-    sort: SortSpec,
-) -> Result<(), NoMemory> {
-    let name = name(alloc, bytes)?;
-    fields.push(FieldSpec { name, sort })?;
-    Ok(())
-}
-
-/// Adds a constructor of that name with these fields.
-fn add_ctor(
-    alloc: Global,
-    ctors: &mut List<CtorSpec>,
-    bytes: &[u8],
-    fields: List<FieldSpec>,
-) -> Result<(), NoMemory> {
-    let name = name(alloc, bytes)?;
-    ctors.push(CtorSpec { name, fields })?;
-    Ok(())
-}
-
-/// Adds a datatype of that name with these constructors.
-fn add_data(
-    alloc: Global,
-    group: &mut List<DataSpec>,
-    bytes: &[u8],
-    ctors: List<CtorSpec>,
-) -> Result<(), NoMemory> {
-    let name = name(alloc, bytes)?;
-    group.push(DataSpec { name, ctors })?;
-    Ok(())
-}
-
-/// Lists and the datatype `a b`, whose fields are of each other.
-fn first_group(alloc: Global) -> Result<List<DataSpec>, NoMemory> {
-    let mut ctors = List::new(alloc);
-    add_ctor(alloc, &mut ctors, b"nil", List::new(alloc))?;
-    let mut fields = List::new(alloc);
-    add_field(alloc, &mut fields, b"head", sort_named(alloc, b"a b")?)?;
-    add_field(alloc, &mut fields, b"tail", sort_named(alloc, b"list")?)?;
-    add_ctor(alloc, &mut ctors, b"cons", fields)?;
-    let mut group = List::new(alloc);
-    add_data(alloc, &mut group, b"list", ctors)?;
-    let mut fields = List::new(alloc);
-    add_field(alloc, &mut fields, b"let", array_of(alloc, b"list")?)?;
-    let mut ctors = List::new(alloc);
-    add_ctor(alloc, &mut ctors, b"get-value", fields)?;
-    add_data(alloc, &mut group, b"a b", ctors)?;
-    Ok(group)
-}
-
-/// A datatype whose constructor begins like a variable's name.
-fn second_group(alloc: Global) -> Result<List<DataSpec>, NoMemory> {
-    let mut ctors = List::new(alloc);
-    add_ctor(alloc, &mut ctors, b"x0", List::new(alloc))?;
-    let mut group = List::new(alloc);
-    add_data(alloc, &mut group, b"last", ctors)?;
-    Ok(group)
-}
-
-/// The signature of the two groups.
-fn two_groups(alloc: Global) -> Result<Sig, SigErr> {
+/// The signature of those groups.
+fn signature(alloc: Global, groups: &[&[Piece<'_>]]) -> Result<Sig, SigErr> {
     let mut sig = Sig::new(alloc);
-    let none = List::new(alloc);
-    let group = first_group(alloc)?;
-    sig.add_group(alloc, group.as_slice(), &none)?;
-    let group = second_group(alloc)?;
-    sig.add_group(alloc, group.as_slice(), &none)?;
+    for pieces in groups {
+        let group = group(alloc, pieces)?;
+        sig.add_group(alloc, group.as_slice(), &List::new(alloc))?;
+    }
     Ok(sig)
-}
-
-/// A predicate on a datatype.
-fn on_datatype(alloc: Global, d: u32, live: bool) -> Result<PredDecl, NoMemory> {
-    let mut sorts = List::new(alloc);
-    sorts.push(Sort::Data(d))?;
-    Ok(PredDecl { sorts, live })
-}
-
-/// A live predicate on `a b`, and one on the last datatype that isn't live.
-fn two_preds(alloc: Global) -> Result<List<PredDecl>, NoMemory> {
-    let mut preds = List::new(alloc);
-    preds.push(on_datatype(alloc, 1, true)?)?;
-    preds.push(on_datatype(alloc, 2, false)?)?;
-    Ok(preds)
 }
 
 /// The state of these parts, if it is one and memory isn't refused.
@@ -297,10 +130,10 @@ fn state_of(
     }
 }
 
-/// The state of the two predicates without clauses.
+/// The state without clauses of a live predicate on `a b`, and one on the last datatype that isn't live.
 fn state(alloc: Global) -> Option<State> {
-    let sig = two_groups(alloc).ok()?;
-    let preds = two_preds(alloc).ok()?;
+    let sig = signature(alloc, &GROUPS).ok()?;
+    let preds = preds(alloc, &[(b"1", true), (b"2", false)]).ok()?;
     state_of(alloc, sig, preds, List::new(alloc))
 }
 
@@ -323,12 +156,8 @@ fn the_last_group_is_unused(rt: HostRuntime) {
 
 /// There is a list for which a definition calls it and the variable 0.
 fn called(alloc: Global) -> Result<Term, NoMemory> {
-    let mut sorts = List::new(alloc);
-    sorts.push(Sort::Data(0))?;
-    let mut arguments = one(alloc, Term::Var(1))?;
-    arguments.push(Term::Var(0))?;
-    let body = Boxed::new(alloc, Term::Call(0, arguments))?;
-    Ok(Term::Quant(Kind::Exists, sorts, body))
+    let body = Boxed::new(alloc, Term::Call(0, terms(alloc, b"ba")?))?;
+    Ok(Term::Quant(Kind::Exists, sorts(alloc, b"0")?, body))
 }
 
 /// The text of that term under one variable.
@@ -390,7 +219,7 @@ fn value(alloc: Global, i: usize) -> Result<Value, NoMemory> {
 
 /// The text of such a value.
 fn value_in_two_groups(alloc: Global, i: usize) -> Option<ByteText> {
-    let sig = two_groups(alloc).ok()?;
+    let sig = signature(alloc, &GROUPS).ok()?;
     let value = value(alloc, i).ok()?;
     value_text(alloc, &value, &sig).ok()
 }

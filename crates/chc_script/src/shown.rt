@@ -78,3 +78,15 @@ pub(crate) fn show_clause(
     }
     out.push(b'\n')
 }
+
+/// Adds a line for each clause.
+pub(crate) fn show_clauses(
+    alloc: Global,
+    out: &mut ByteText,
+    clauses: &[Clause],
+) -> Result<(), NoMemory> {
+    for clause in clauses {
+        show_clause(alloc, out, clause)?;
+    }
+    Ok(())
+}

@@ -1,30 +1,42 @@
 //! First faults of scripts, and scripts that are read.
 
-use crate::shown::show_clause;
+use crate::script::Script;
+use crate::shown::show_clauses;
 use crate::whole::script::read_script;
-use chc_sexpr::TextErr;
+use chc_sexpr::{TextErr, TextFault};
 use chc_sorts::NoMemory;
 use chc_source::ByteText;
 use std::alloc::Global;
 
+/// The reading of a text, of which tests know no more than what it answers.
+fn read(alloc: Global, text: &[u8]) -> Result<Script, TextErr> {
+    if text.len() > 4_294_967_295 {
+        return Err(TextErr::NoMemory);
+    }
+    read_script(alloc, text)
+}
+
+/// Adds the numbers of predicates and clauses of a script.
+fn tell_numbers(alloc: Global, out: &mut ByteText, script: &Script) -> Result<(), NoMemory> {
+    let preds = script.state.preds().len();
+    let clauses = script.state.clauses().len();
+    out.extend(format!(in alloc; "{preds} predicates, {clauses} clauses")?.as_bytes())
+}
+
+/// Adds a fault: its place, what it is, and its name.
+fn tell_fault(alloc: Global, out: &mut ByteText, fault: &TextFault) -> Result<(), NoMemory> {
+    let place = fault.place;
+    out.extend(format!(in alloc; "{place} ")?.as_bytes())?;
+    out.extend(fault.fault.name())?;
+    out.push(b' ')?;
+    out.extend(fault.name.bytes())
+}
+
 /// Adds what the reading of a text answers: its numbers of predicates and clauses, or its fault with place and name.
 fn tell(alloc: Global, out: &mut ByteText, text: &[u8]) -> Result<(), NoMemory> {
-    if text.len() > 4_294_967_295 {
-        return Ok(());
-    }
-    match read_script(alloc, text) {
-        Ok(script) => {
-            let preds = script.state.preds().len();
-            let clauses = script.state.clauses().len();
-            out.extend(format!(in alloc; "{preds} predicates, {clauses} clauses")?.as_bytes())
-        }
-        Err(TextErr::At(fault)) => {
-            let place = fault.place;
-            out.extend(format!(in alloc; "{place} ")?.as_bytes())?;
-            out.extend(fault.fault.name())?;
-            out.push(b' ')?;
-            out.extend(fault.name.bytes())
-        }
+    match read(alloc, text) {
+        Ok(script) => tell_numbers(alloc, out, &script),
+        Err(TextErr::At(fault)) => tell_fault(alloc, out, &fault),
         Err(TextErr::NoMemory) => Err(NoMemory),
     }
 }
@@ -82,17 +94,9 @@ fn numbered(alloc: Global, frame: &Frame<'_>) -> Result<ByteText, NoMemory> {
 }
 
 /// Adds the clauses of a script, a line for each.
-fn show_clauses(alloc: Global, out: &mut ByteText, text: &[u8]) -> Result<(), NoMemory> {
-    if text.len() > 4_294_967_295 {
-        return Ok(());
-    }
-    match read_script(alloc, text) {
-        Ok(script) => {
-            for clause in script.state.clauses().as_slice() {
-                show_clause(alloc, out, clause)?;
-            }
-            Ok(())
-        }
+fn show_script(alloc: Global, out: &mut ByteText, text: &[u8]) -> Result<(), NoMemory> {
+    match read(alloc, text) {
+        Ok(script) => show_clauses(alloc, out, script.state.clauses().as_slice()),
         Err(TextErr::At(_)) => out.extend(b"refused"),
         Err(TextErr::NoMemory) => Err(NoMemory),
     }
@@ -101,7 +105,7 @@ fn show_clauses(alloc: Global, out: &mut ByteText, text: &[u8]) -> Result<(), No
 /// Whether the clauses of a script are shown so, or `None` where memory was refused.
 fn has_clauses(alloc: Global, text: &[u8], wanted: &[u8]) -> Option<bool> {
     let mut out = ByteText::new(alloc);
-    show_clauses(alloc, &mut out, text).ok()?;
+    show_script(alloc, &mut out, text).ok()?;
     Some(out.bytes() == wanted)
 }
 
@@ -522,14 +526,22 @@ fn limits_of_single_commands(rt: HostRuntime) {
 
 #[test]
 fn most_clauses_of_a_script(rt: HostRuntime) {
-    let fronts = [b"(set-logic HORN)".as_slice(), b"(set-logic HORN)"];
-    let opens = [b"(assert true)".as_slice(), b"(assert true)"];
-    let middles = [b"".as_slice(), b""];
-    let closes = [b"".as_slice(), b""];
-    let ends = [b"".as_slice(), b"(check-sat)"];
-    let counts = [65537, 65536];
-    let wanted = [b"851984 TooMany L9".as_slice(), b"851984 TooMany L9"];
-    for i in 0..2 {
+    let fronts = [
+        b"(set-logic HORN)".as_slice(),
+        b"(set-logic HORN)",
+        b"(set-logic HORN)(declare-const p Bool)",
+    ];
+    let opens = [b"(assert true)".as_slice(), b"(assert true)", b"(assert p)"];
+    let middles = [b"".as_slice(), b"", b""];
+    let closes = [b"".as_slice(), b"", b""];
+    let ends = [b"".as_slice(), b"(check-sat)", b"(assert true)(check-sat)"];
+    let counts = [65537, 65536, 65535];
+    let wanted = [
+        b"851984 TooMany L9".as_slice(),
+        b"851984 TooMany L9",
+        b"1 predicates, 65536 clauses",
+    ];
+    for i in 0..3 {
         let frame = Frame {
             front: fronts[i],
             open: opens[i],
@@ -552,17 +564,33 @@ fn limits_of_names(rt: HostRuntime) {
         b"(set-logic HORN)(declare-datatype T (".as_slice(),
         b"(set-logic HORN)(declare-datatype T ((c",
         b"(set-logic HORN)",
+        b"(set-logic HORN)",
+        b"(set-logic HORN)",
     ];
-    let befores = [b"(c".as_slice(), b" (s", b"(declare-const p"];
-    let afters = [b")".as_slice(), b" Int)", b" Bool)"];
-    let ends = [b"))".as_slice(), b")))", b""];
-    let counts = [257, 65, 65537];
+    let befores = [
+        b"(c".as_slice(),
+        b" (s",
+        b"(declare-const p",
+        b"(declare-const p",
+        b"(declare-const p",
+    ];
+    let afters = [b")".as_slice(), b" Int)", b" Bool)", b" Bool)", b" Bool)"];
+    let ends = [
+        b"))".as_slice(),
+        b")))",
+        b"",
+        b"(check-sat)",
+        b"(assert true)(check-sat)",
+    ];
+    let counts = [257, 65, 65537, 65536, 65536];
     let wanted = [
         b"16 TooMany L13".as_slice(),
         b"16 TooMany L14",
         b"1758378 TooMany L7",
+        b"1758378 TooMany L7",
+        b"65536 predicates, 1 clauses",
     ];
-    for i in 0..3 {
+    for i in 0..5 {
         let frame = Frame {
             front: fronts[i],
             open: befores[i],
@@ -571,6 +599,98 @@ fn limits_of_names(rt: HostRuntime) {
             count: counts[i],
         };
         match numbered(rt.alloc(), &frame) {
+            Ok(text) => {
+                assert!(rt; is_told(rt.alloc(), b"", text.bytes(), wanted[i]) == Some(true));
+            }
+            Err(_) => assert!(rt; false),
+        }
+    }
+}
+
+/// A group of so many datatypes, each with one constructor, and what follows it.
+fn one_group(alloc: Global, count: usize, end: &[u8]) -> Result<ByteText, NoMemory> {
+    let heads = Frame {
+        front: b"(set-logic HORN)(declare-datatypes (",
+        open: b"(T",
+        close: b" 0)",
+        end: b") (",
+        count,
+    };
+    let bodies = Frame {
+        front: b"",
+        open: b"((c",
+        close: b"))",
+        end: b"))",
+        count,
+    };
+    let mut text = numbered(alloc, &heads)?;
+    text.extend(numbered(alloc, &bodies)?.bytes())?;
+    text.extend(end)?;
+    Ok(text)
+}
+
+#[test]
+fn most_datatypes_of_a_script(rt: HostRuntime) {
+    let counts = [1025, 1024, 1024];
+    let ends = [
+        b"(check-sat)".as_slice(),
+        b"(declare-datatype T ((c)))",
+        b"(check-sat)",
+    ];
+    let wanted = [
+        b"16 TooMany L12".as_slice(),
+        b"16253 TooMany L12",
+        b"0 predicates, 0 clauses",
+    ];
+    for i in 0..3 {
+        match one_group(rt.alloc(), counts[i], ends[i]) {
+            Ok(text) => {
+                assert!(rt; is_told(rt.alloc(), b"", text.bytes(), wanted[i]) == Some(true));
+            }
+            Err(_) => assert!(rt; false),
+        }
+    }
+}
+
+/// A script of 31 clauses of the charge 131,073, each a disjunction of 65,536 truths with what is asserted of it; then a
+/// disjunction of 65,520 truths behind those literals, and the end.
+fn charged(
+    alloc: Global,
+    asserted: &[u8],
+    literals: &[u8],
+    end: &[u8],
+) -> Result<ByteText, NoMemory> {
+    let frame = Frame {
+        front: b"(assert (let ((a (or true true))) ",
+        open: b"(let ((a (or a a))) ",
+        close: b")",
+        end: b"))",
+        count: 15,
+    };
+    let clause = framed(alloc, &frame, asserted)?;
+    let mut text = ByteText::new(alloc);
+    text.extend(b"(set-logic HORN)(declare-const p Bool)")?;
+    repeat(&mut text, clause.bytes(), 31)?;
+    text.extend(b"(assert (or")?;
+    text.extend(literals)?;
+    repeat(&mut text, b" true", 65520)?;
+    text.extend(b"))")?;
+    text.extend(end)?;
+    Ok(text)
+}
+
+#[test]
+fn highest_charge_of_a_script(rt: HostRuntime) {
+    let asserted = [b"a".as_slice(), b"a", b"(or p a)"];
+    let literals = [b" (not p)".as_slice(), b"", b""];
+    let ends = [b"(check-sat)".as_slice(), b"(check-sat)", b"(check-sat)"];
+    let wanted = [
+        b"10950 TooMany L6".as_slice(),
+        b"338563 TooMany L6",
+        b"1 predicates, 32 clauses",
+    ];
+    for i in 0..3 {
+        match charged(rt.alloc(), asserted[i], literals[i], ends[i]) {
             Ok(text) => {
                 assert!(rt; is_told(rt.alloc(), b"", text.bytes(), wanted[i]) == Some(true));
             }
