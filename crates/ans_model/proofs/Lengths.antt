@@ -11,8 +11,8 @@ use Rattle.chc_sexpr.specs.Tokens.{is_simple_symbol, is_reserved, is_whole_numbe
 use Rattle.chc_sexpr.specs.declared.tree.Tree.{Tree}
 use Rattle.chc_sexpr.specs.declared.tree.Tree.TheOpen.{Tree-F}
 use Rattle.chc_sexpr.specs.declared.tree.Tree.TheVariants.{Symbol, Word, Keyword, Numeral, Text, Other, Group}
-use Rattle.ans_model.specs.Counts.{count, count_step, count_all, HasRoom}
-use Rattle.ans_model.proofs.TypedLaws.{count-Group}
+use Rattle.chc_sexpr.specs.Counts.{count, count_step, count_all}
+use Rattle.chc_elab.proofs.TreeCounts.{count-Group}
 
 -- a tree has no more trees than its text has bytes
 abbrev Counted : Tree → Type 0
@@ -110,6 +110,3 @@ all_counted (x ∷ xs) = (counted x, all_counted xs)
 -- the trees of a text are no more than its bytes
 pub spelled_count : (bytes : List ℕ) (trees : List Tree) → Spells bytes trees → count_all trees ≤ length bytes
 spelled_count bytes trees s = each_counted true trees (all_counted trees) 0 bytes s.spelled
-
-pub spelled_room : (bytes : List ℕ) (trees : List Tree) → Spells bytes trees → length bytes < 2 ^ 32 → HasRoom 0 (count_all trees)
-spelled_room bytes trees s short = let some = spelled_count bytes trees s in record { fits = omega arith }

@@ -1,7 +1,8 @@
-pub mod Bodies
-pub mod Counts
-pub mod Heads
-pub mod Models
-pub mod Scopes
-pub mod Numerals
+pub mod Forms
+pub mod Defining
+pub mod Drafts
+pub mod Drafted
+pub mod Answers
 pub mod Texts
+pub mod Readable
+pub mod Unlimited

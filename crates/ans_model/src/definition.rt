@@ -1,119 +1,94 @@
-//! Definitions from trees.
+//! Definitions from their trees.
 
-ghost use Rattle.std.specs.Prelude.{◌≡◌, ◌+◌, length, IfOk};
-ghost use Rattle.ans_model.specs.Counts.{count, HasRoom};
-ghost use Rattle.ans_model.specs.Models.{closed_over, definition_of, definition_over, definition_parts, is_small};
-ghost use Rattle.chc_sexpr.specs.Readings.{Gives};
-ghost use Rattle.ans_model.specs.Scopes.{sorts_in};
+ghost use Rattle.std.specs.Prelude.{◌≡◌, ◌+◌, ◌<◌, ◌^◌, IfOk, IsTrue, OnOk, None};
+ghost use Rattle.chc_sexpr.specs.Counts.{count, count_all};
+ghost use Rattle.chc_sorts.specs.Names.{look_up};
+ghost use Rattle.chc_elab.specs.Binders.{are_pairs};
+ghost use Rattle.chc_elab.specs.Sites.{Tells};
+ghost use Rattle.ans_model.specs.Defining.{closed, definition, is_taken, new_name, setting_of};
+ghost use Rattle.ans_model.specs.Forms.{form_seen};
 
-use crate::body::read_typed;
-use crate::scope::{Binders, read_binders};
-use crate::sorts::same_sort;
-use crate::typed::Typed;
-use chc_sexpr::{Tree, group_of, is_symbol, symbol_of};
-use chc_sorts::{List, Name, NoMemory, Sort, copy_sorts};
+use crate::form::Form;
+use crate::params::{Declared, read_names, read_sorts};
+use chc_elab::{Scope, SortedTerm, elab_sorted, fault, named_fault, sort_of_tree};
+use chc_sexpr::{Fault, TextErr};
+use chc_sorts::{List, Sig, Sort, op_by_name, same_sort};
 use chc_state::Def;
-use chc_terms::{Term, depth, size};
 use std::alloc::Global;
 
-/// How many nodes a body may have at most.
-const MOST_NODES: u64 = 262144;
-
-/// How many nodes a branch of a body may have at most.
-const MOST_DEPTH: u64 = 900;
-
-/// A definition and its name.
-#[derive(Drop)]
-pub struct Named {
-    pub name: Name,
-    pub def: Def,
+/// Whether no definition may have the name: it is `true`, `false`, an operator's, a constructor's or a selector's.
+fn is_taken(sig: &Sig, name: &[u8]) -> bool
+    ensures { result ≡ is_taken sig.now name.now }
+{
+    name == b"true".as_slice()
+        || name == b"false".as_slice()
+        || op_by_name(name).is_some()
+        || sig.meaning(name).is_some()
 }
 
-/// Whether a term is within the limits of bodies.
-fn is_small(term: &Term) -> bool
-    ensures { result ≡ is_small term.now }
+/// Nothing where a definition may have the name. Errors: `At` the place with `NameTaken` or, where an earlier definition
+/// has it, `Twice`; `NoMemory`.
+pub fn check_name(
+    alloc: Global,
+    declared: &Declared<'_>,
+    place: u64,
+    name: &[u8],
+) -> Result<(), TextErr>
+    ensures value { Tells result (new_name (setting_of declared.now) place name.now) }
+    ensures new { OnOk result (look_up declared.now.symbols.now name.now ≡ None) }
 {
-    size(term) <= MOST_NODES && depth(term) <= MOST_DEPTH
-}
-
-/// The definition over parameters of these sorts of a body, which must be of sort Bool and within the limits.
-fn closed_over(params: List<Sort>, body: Typed) -> Option<Def>
-    ensures { result ≡ closed_over params body }
-{
-    let Typed { term, sort } = body;
-    if !same_sort(&sort, &Sort::Bool) || !is_small(&term) {
-        return None;
+    if is_taken(declared.sig, name) {
+        return named_fault(alloc, place, Fault::NameTaken, name);
     }
-    Some(Def {
+    match declared.symbols.find(name) {
+        Some(_) => named_fault(alloc, place, Fault::Twice, name),
+        None => Ok(()),
+    }
+}
+
+/// The definition over these parameters of a body. Errors: `At` the place with `WrongSort` where the body isn't of the
+/// sort of its values; `NoMemory`.
+fn close(
+    alloc: Global,
+    place: u64,
+    params: List<Sort>,
+    values: Sort,
+    body: SortedTerm,
+) -> Result<Def, TextErr>
+    ensures { Tells result (closed place params values body) }
+{
+    if !same_sort(&body.sort, &values) {
+        return fault(alloc, place, Fault::WrongSort);
+    }
+    Ok(Def {
         params,
-        result: Sort::Bool,
-        body: term,
+        result: values,
+        body: body.term,
     })
 }
 
-/// The definition over these parameters of the body that a tree stands for.
-fn read_body(alloc: Global, params: Binders, tree: &Tree) -> Result<Option<Def>, NoMemory>
-    requires { HasRoom (length params) (count tree.now) }
-    ensures { Gives result (definition_over tree.now params) }
-{
-    let sorts = copy_sorts(alloc, params.sorts())?;
-    let mut scope = List::new(alloc);
-    scope.push(params)?;
-    match read_typed(alloc, &mut scope, tree)? {
-        Some(body) => Ok(closed_over(sorts, body)),
-        None => Ok(None),
-    }
-}
-
-/// An equal name on fresh memory.
-fn copy_bytes(alloc: Global, bytes: &[u8]) -> Result<Name, NoMemory>
-    ensures { IfOk result (λ name. name ≡ bytes.now) }
-{
-    let mut name = List::new(alloc);
-    for byte in bytes {
-        name.push(*byte)?;
-    }
-    Ok(name)
-}
-
-/// The definition of a name by the trees of its parameters and its body.
-fn read_parts(
+/// The definition of a form at the place. Errors, in this order: `At` the second of two equal names of parameters with
+/// `NameTaken`; the first fault of their sorts, of the sort of its values, and of its body; `At` the place with
+/// `WrongSort`; or `NoMemory`.
+pub fn read_definition(
     alloc: Global,
-    name: &[u8],
-    params: &Tree,
-    body: &Tree,
-) -> Result<Option<Named>, NoMemory>
-    requires { HasRoom (count params.now) (count body.now) }
-    ensures { Gives result (definition_parts params.now body.now name.now) }
+    declared: &Declared<'_>,
+    place: u64,
+    form: &Form<'_>,
+) -> Result<Def, TextErr>
+    requires pairs { IsTrue (are_pairs form.now.params.now) }
+    requires room { count_all form.now.params.now + count form.now.body.now < 2 ^ 32 }
+    ensures { Tells result (definition (setting_of declared.now) place (form_seen form.now)) }
 {
-    let Some(params) = read_binders(alloc, params)? else {
-        return Ok(None);
+    let names = read_names(alloc, form.params)?;
+    let params = read_sorts(alloc, declared, form.params)?;
+    let values = sort_of_tree(alloc, declared.sig, form.values)?;
+    let scope = Scope {
+        sig: declared.sig,
+        symbols: declared.symbols,
+        names: &names,
+        sorts: &params,
     };
-    let Some(def) = read_body(alloc, params, body)? else {
-        return Ok(None);
-    };
-    let name = copy_bytes(alloc, name)?;
-    Ok(Some(Named { name, def }))
-}
-
-/// The definition that a tree says, which is `(define-fun f ((x S) ..) Bool body)`.
-pub fn read_definition(alloc: Global, tree: &Tree) -> Result<Option<Named>, NoMemory>
-    requires { HasRoom 0 (count tree.now) }
-    ensures { Gives result (definition_of tree.now) }
-{
-    let Some(trees) = group_of(tree) else {
-        return Ok(None);
-    };
-    match trees {
-        [head, name, params, result, body] => {
-            if !is_symbol(head, b"define-fun") || !is_symbol(result, b"Bool") {
-                return Ok(None);
-            }
-            match symbol_of(name) {
-                Some(name) => read_parts(alloc, name, params, body),
-                None => Ok(None),
-            }
-        }
-        [] | [_] | [_, _] | [_, _, _] | [_, _, _, _] | [_, _, _, _, _, _, ..] => Ok(None),
-    }
+    let body = elab_sorted(alloc, form.body, &scope)?;
+    close(alloc, place, params, values, body)
 }

@@ -1,17 +1,17 @@
 //! Model answers: definitions of predicates, read and written.
 #![tactic(auto)]
 
-mod body;
+mod answer;
 mod definition;
+mod draft;
+mod form;
 mod names;
-mod numeral;
-mod read;
-mod scope;
-mod sorts;
+mod owners;
+mod params;
+mod target;
 mod text;
-mod typed;
 
-pub use read::read_defs;
+pub use answer::read_defs;
 pub use text::defs_text;
 
 #[cfg(test)]

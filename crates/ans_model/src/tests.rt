@@ -1,360 +1,575 @@
-//! Answers that are read, and texts that are no answer.
+//! Answers with their first faults, definitions that are read, and the texts of definitions.
 
-ghost use Rattle.std.specs.Prelude.{◌≡◌, ◌∷◌, [], length, IfOk, IsTrue};
-ghost use Rattle.std.specs.List.{list_all};
-ghost use Rattle.chc_sorts.specs.Signature.{no_datatypes};
-ghost use Rattle.chc_sexpr.specs.Names.{AreNames};
-ghost use Rattle.chc_sorts.specs.Sorts.{sort_fits};
-ghost use Rattle.chc_state.specs.Sorts.{positions_fit};
+ghost use Rattle.std.specs.Prelude.{IfOk};
+ghost use Rattle.chc_state.specs.Definitions.{Defines};
 
-use crate::read_defs;
-use chc_sorts::{List, Name, NoMemory, Op, Sig, Sort};
+use crate::{defs_text, read_defs};
+use chc_sexpr::{TextErr, TextFault};
+use chc_sorts::{CtorSpec, DataSpec, FieldSpec, List, Name, NoMemory, Sig, SigErr, Sort, SortSpec};
 use chc_source::ByteText;
-use chc_state::{Defs, PredDecl, State, over};
-use chc_terms::{Kind, Term};
+use chc_state::{Defs, Names, PredDecl, State, positions_fit};
 use std::alloc::Global;
 
-/// A name of one byte.
-fn name(alloc: Global, byte: u8) -> Result<Name, NoMemory>
-    ensures { IfOk result (λ name. name ≡ byte ∷ []) }
-{
+/// Two states with names of their predicates.
+#[derive(Clone, Copy)]
+enum States {
+    /// Colours and pairs; `p` on an Int, `q` on nothing, and `r` on an Int, which isn't live.
+    First,
+    /// `lift!0` on an Int, `x0` on nothing, and a helper on a Bool.
+    Second,
+}
+
+/// The name of those bytes.
+fn name(alloc: Global, bytes: &[u8]) -> Result<Name, NoMemory> {
     let mut name = List::new(alloc);
-    name.push(byte)?;
+    for b in bytes {
+        name.push(*b)?;
+    }
     Ok(name)
 }
 
-/// The names `p`, `q` and `r`.
-fn names(alloc: Global) -> Result<List<Name>, NoMemory>
-    ensures count { IfOk result (λ names. length names ≡ 3) }
-    ensures apart { IfOk result AreNames }
-{
+/// The names of those bytes.
+fn names(alloc: Global, all: &[&[u8]]) -> Result<Names, NoMemory> {
     let mut names = List::new(alloc);
-    names.push(name(alloc, b'p')?)?;
-    names.push(name(alloc, b'q')?)?;
-    names.push(name(alloc, b'r')?)?;
+    for bytes in all {
+        names.push(name(alloc, bytes)?)?;
+    }
     Ok(names)
 }
 
-/// A predicate on one Int.
-#[tactic(auto, using(crate::proofs::Fitting::int_fits))]
-fn on_number(alloc: Global, live: bool) -> Result<PredDecl, NoMemory>
-    ensures { IfOk result (λ decl. IsTrue (list_all (sort_fits no_datatypes) decl.sorts)) }
-{
+/// A field of that name and sort.
+fn field(alloc: Global, bytes: &[u8], sort: &[u8]) -> Result<FieldSpec, NoMemory> {
+    Ok(FieldSpec {
+        name: name(alloc, bytes)?,
+        sort: SortSpec::Named(name(alloc, sort)?),
+    })
+}
+
+/// A datatype of that name with these constructors.
+fn datatype(alloc: Global, bytes: &[u8], ctors: List<CtorSpec>) -> Result<DataSpec, NoMemory> {
+    Ok(DataSpec {
+        name: name(alloc, bytes)?,
+        ctors,
+    })
+}
+
+/// Three colours.
+fn colour(alloc: Global) -> Result<DataSpec, NoMemory> {
+    let mut ctors = List::new(alloc);
+    for bytes in [b"red".as_slice(), b"green", b"blue"] {
+        ctors.push(CtorSpec {
+            name: name(alloc, bytes)?,
+            fields: List::new(alloc),
+        })?;
+    }
+    datatype(alloc, b"Color", ctors)
+}
+
+/// Pairs of a colour and an Int.
+fn pair(alloc: Global) -> Result<DataSpec, NoMemory> {
+    let mut fields = List::new(alloc);
+    fields.push(field(alloc, b"fst", b"Color")?)?;
+    fields.push(field(alloc, b"snd", b"Int")?)?;
+    let mut ctors = List::new(alloc);
+    ctors.push(CtorSpec {
+        name: name(alloc, b"mk")?,
+        fields,
+    })?;
+    datatype(alloc, b"Pair", ctors)
+}
+
+/// The group of colours and pairs.
+fn datatypes(alloc: Global) -> Result<List<DataSpec>, NoMemory> {
+    let mut group = List::new(alloc);
+    group.push(colour(alloc)?)?;
+    group.push(pair(alloc)?)?;
+    Ok(group)
+}
+
+/// The signature of colours and pairs.
+fn signature(alloc: Global) -> Result<Sig, SigErr> {
+    let group = datatypes(alloc)?;
+    let mut sig = Sig::new(alloc);
+    sig.add_group(alloc, group.as_slice(), &List::new(alloc))?;
+    Ok(sig)
+}
+
+/// A predicate on one position of that sort.
+fn on_one(alloc: Global, sort: Sort, live: bool) -> Result<PredDecl, NoMemory> {
     let mut sorts = List::new(alloc);
-    sorts.push(Sort::Int)?;
+    sorts.push(sort)?;
     Ok(PredDecl { sorts, live })
 }
 
-/// The predicates `p` on an Int and `q` on nothing, which are live, and `r` on an Int, which isn't.
-fn preds(alloc: Global) -> Result<List<PredDecl>, NoMemory>
-    ensures count { IfOk result (λ preds. length preds ≡ 3) }
-    ensures fit { IfOk result (λ preds. IsTrue (positions_fit no_datatypes preds)) }
-{
+/// A live predicate on an Int, one on nothing, and another one.
+fn preds(alloc: Global, third: PredDecl) -> Result<List<PredDecl>, NoMemory> {
     let mut preds = List::new(alloc);
-    preds.push(on_number(alloc, true)?)?;
+    preds.push(on_one(alloc, Sort::Int, true)?)?;
     preds.push(PredDecl {
         sorts: List::new(alloc),
         live: true,
     })?;
-    preds.push(on_number(alloc, false)?)?;
+    preds.push(third)?;
     Ok(preds)
 }
 
-/// What an answer says of predicates of these names; `None` where memory was refused.
-fn reading_of(
-    alloc: Global,
-    text: &[u8],
-    preds: List<PredDecl>,
-    names: &List<Name>,
-) -> Option<Option<Defs>>
-    requires preds { length preds ≡ 3 }
-    requires names { length names.now ≡ 3 }
-    requires apart { AreNames names.now }
-    requires fit { IsTrue (positions_fit no_datatypes preds) }
-{
-    let clauses = List::new(alloc);
-    if over(&preds, &clauses).is_some() || text.len() >= 4294967296 {
-        return None;
-    }
-    let state = State::of_parts(Sig::new(alloc), preds, clauses);
-    read_defs(alloc, text, &state, names).ok()
-}
-
-/// What an answer says of the predicates; `None` where memory was refused.
-fn reading(alloc: Global, text: &[u8]) -> Option<Option<Defs>> {
-    let preds = preds(alloc).ok()?;
-    let names = names(alloc).ok()?;
-    reading_of(alloc, text, preds, &names)
-}
-
-/// Whether a text is read, or `None` where memory was refused.
-fn is_read(alloc: Global, text: &[u8]) -> Option<bool> {
-    let read = reading(alloc, text)?;
-    Some(read.is_some())
-}
-
-/// The answer of these definitions and one of `q`.
-fn answer_with(alloc: Global, definitions: &[u8]) -> Result<ByteText, NoMemory> {
-    let mut text = ByteText::new(alloc);
-    text.extend(b"sat (")?;
-    text.extend(definitions)?;
-    text.extend(b"(define-fun q () Bool true))")?;
-    Ok(text)
-}
-
-/// The answer of this body of `p`, over `x`, and a definition of `q`.
-fn answer_of(alloc: Global, body: &[u8]) -> Result<ByteText, NoMemory> {
-    let mut text = ByteText::new(alloc);
-    text.extend(b"(define-fun p ((x Int)) Bool ")?;
-    text.extend(body)?;
-    text.extend(b")")?;
-    answer_with(alloc, text.bytes())
-}
-
-/// Whether an answer with these definitions is read, or `None` where memory was refused.
-fn is_read_with(alloc: Global, definitions: &[u8]) -> Option<bool> {
-    let text = answer_with(alloc, definitions).ok()?;
-    is_read(alloc, text.bytes())
-}
-
-/// Whether an answer with this body is read, or `None` where memory was refused.
-fn is_body(alloc: Global, body: &[u8]) -> Option<bool> {
-    let text = answer_of(alloc, body).ok()?;
-    is_read(alloc, text.bytes())
-}
-
-fn name_of(op: &Op) -> &'static [u8] {
-    match op {
-        Op::Not => b"(not",
-        Op::And => b"(and",
-        Op::Or => b"(or",
-        Op::Eq => b"(=",
-        Op::Add => b"(+",
-        Op::Sub => b"(-",
-        Op::Le => b"(<=",
-        Op::Lt => b"(<",
-        _ => b"(?",
+/// The state of these predicates, without clauses, if it is one and memory isn't refused.
+fn state_of(alloc: Global, sig: Sig, preds: List<PredDecl>) -> Option<State> {
+    if preds.len() < 1_000 && positions_fit(&sig, &preds) {
+        State::make(alloc, sig, preds, List::new(alloc)).ok()
+    } else {
+        None
     }
 }
 
-fn show(alloc: Global, out: &mut ByteText, term: &Term) -> Result<(), NoMemory> {
-    match term {
-        Term::Var(number) => out.extend(format!(in alloc; " x{number}")?.as_bytes()),
-        Term::Num(number) => out.extend(format!(in alloc; " {number}")?.as_bytes()),
-        Term::Lit(truth) => out.extend(format!(in alloc; " {truth}")?.as_bytes()),
-        Term::App(op, args) => {
-            out.extend(b" ")?;
-            out.extend(name_of(op))?;
-            for arg in args.as_slice() {
-                show(alloc, out, arg)?;
-            }
-            out.extend(b")")
+/// A state and its names.
+fn state(alloc: Global, which: States) -> Option<(State, Names)> {
+    match which {
+        States::First => {
+            let third = on_one(alloc, Sort::Int, false).ok()?;
+            let state = state_of(alloc, signature(alloc).ok()?, preds(alloc, third).ok()?)?;
+            Some((state, names(alloc, &[b"p", b"q", b"r"]).ok()?))
         }
-        Term::Quant(kind, sorts, body) => {
-            let count = sorts.len();
-            let head = match kind {
-                Kind::Forall => b" (forall".as_slice(),
-                Kind::Exists => b" (exists",
-            };
-            out.extend(head)?;
-            out.extend(format!(in alloc; " {count}")?.as_bytes())?;
-            show(alloc, out, body.get())?;
-            out.extend(b")")
+        States::Second => {
+            let third = on_one(alloc, Sort::Bool, true).ok()?;
+            let state = state_of(alloc, Sig::new(alloc), preds(alloc, third).ok()?)?;
+            Some((state, names(alloc, &[b"lift!0", b"x0"]).ok()?))
         }
-        Term::Pred(_, _) | Term::Call(_, _) => out.extend(b" ?"),
     }
 }
 
-/// The numbers of the predicates' definitions and the bodies in order, of an answer with this body of `p`.
-fn shown(alloc: Global, text: &[u8]) -> Option<ByteText> {
-    let read = reading(alloc, text)?;
-    let d = read?;
-    let mut out = ByteText::new(alloc);
-    for entry in d.of.as_slice() {
+/// Adds the numbers of the predicates' definitions.
+fn tell_entries(alloc: Global, out: &mut ByteText, of: &[Option<u64>]) -> Result<(), NoMemory> {
+    for entry in of {
         match entry {
-            Some(k) => out.extend(format!(in alloc; "{k}").ok()?.as_bytes()).ok()?,
-            None => out.extend(b"-").ok()?,
+            Some(k) => out.extend(format!(in alloc; "{k} ")?.as_bytes())?,
+            None => out.extend(b"- ")?,
         }
     }
-    for def in d.list.as_slice() {
-        show(alloc, &mut out, &def.body).ok()?;
+    Ok(())
+}
+
+/// The reading of a text, of which tests know no more than that definitions are those of the state.
+fn read(alloc: Global, s: &State, names: &Names, text: &[u8]) -> Result<Defs, TextErr>
+    ensures { IfOk result (λ d. Defines d s.now) }
+{
+    if text.len() > 4_294_967_295 {
+        return Err(TextErr::NoMemory);
     }
+    read_defs(alloc, text, s, names)
+}
+
+/// The text of definitions, of which tests know no more than its bytes.
+fn text_of(alloc: Global, defs: &Defs, s: &State, names: &Names) -> Result<ByteText, NoMemory>
+    requires { Defines defs.now s.now }
+{
+    defs_text(alloc, defs, s, names)
+}
+
+/// Adds the numbers of the predicates' definitions and the text of the definitions.
+fn tell_defs(
+    alloc: Global,
+    out: &mut ByteText,
+    s: &State,
+    names: &Names,
+    defs: &Defs,
+) -> Result<(), NoMemory>
+    requires { Defines defs.now s.now }
+{
+    tell_entries(alloc, out, defs.of.as_slice())?;
+    let text = text_of(alloc, defs, s, names)?;
+    out.extend(text.bytes())
+}
+
+/// Adds a fault: its place, what it is, and its name.
+fn tell_fault(alloc: Global, out: &mut ByteText, fault: &TextFault) -> Result<(), NoMemory> {
+    let place = fault.place;
+    out.extend(format!(in alloc; "{place} ")?.as_bytes())?;
+    out.extend(fault.fault.name())?;
+    out.push(b' ')?;
+    out.extend(fault.name.bytes())
+}
+
+/// Adds what the reading of a text answers: the numbers of the predicates' definitions and the text of the definitions, or
+/// its fault with place and name.
+fn tell(
+    alloc: Global,
+    out: &mut ByteText,
+    s: &State,
+    names: &Names,
+    text: &[u8],
+) -> Result<(), NoMemory> {
+    match read(alloc, s, names, text) {
+        Ok(defs) => tell_defs(alloc, out, s, names, &defs),
+        Err(TextErr::At(fault)) => tell_fault(alloc, out, &fault),
+        Err(TextErr::NoMemory) => Err(NoMemory),
+    }
+}
+
+/// What the reading of a text for a state answers, or `None` where memory was refused.
+fn told(alloc: Global, which: States, text: &[u8]) -> Option<ByteText> {
+    let (s, names) = state(alloc, which)?;
+    let mut out = ByteText::new(alloc);
+    tell(alloc, &mut out, &s, &names, text).ok()?;
     Some(out)
 }
 
+/// Whether the text is told so, or `None` where memory was refused.
+fn is_told(alloc: Global, which: States, text: &[u8], wanted: &[u8]) -> Option<bool> {
+    let out = told(alloc, which, text)?;
+    Some(out.bytes() == wanted)
+}
+
+/// The text of the definitions that a text says; `None` where it says none or memory was refused.
+fn written(alloc: Global, s: &State, names: &Names, text: &[u8]) -> Option<ByteText> {
+    let defs = read(alloc, s, names, text).ok()?;
+    text_of(alloc, &defs, s, names).ok()
+}
+
+/// Whether the text of the definitions that a text says is read again as definitions of that text.
+fn is_read_again(alloc: Global, which: States, text: &[u8]) -> Option<bool> {
+    let (s, names) = state(alloc, which)?;
+    let first = written(alloc, &s, &names, text)?;
+    let second = written(alloc, &s, &names, first.bytes())?;
+    Some(first.bytes() == second.bytes())
+}
+
 #[test]
-fn answers_are_sat_and_a_group(rt: HostRuntime) {
-    let read = [
-        b"sat((define-fun q()Bool true)(define-fun p((x Int))Bool true))".as_slice(),
-        b"sat\n(\n(define-fun p ((x Int)) Bool (<= 0 x))\n(define-fun q () Bool false)\n)\n",
-        b"sat\n(model (define-fun p ((x!0 Int)) Bool (not (<= 11 x!0)))\n (define-fun q () Bool true))",
-        b"|sat| (|model| (|define-fun| |p| ((|x| |Int|)) |Bool| |true|) (define-fun q () Bool true)) ; no more",
-    ];
-    for text in read {
-        assert!(rt; is_read(rt.alloc(), text) == Some(true));
-    }
-    let refused = [
+fn texts_that_are_no_answers(rt: HostRuntime) {
+    let texts = [
         b"".as_slice(),
-        b"sat",
         b"unknown",
+        b" ; c\n () sat",
+        b":sat",
         b"unsat",
-        b"()",
-        b"sat ()",
-        b"sat (model)",
+        b" unsat (x)",
+        b"unknown )",
+    ];
+    let wanted = [
+        b"0 NotAnswer ".as_slice(),
+        b"0 NotAnswer ",
+        b"6 NotAnswer ",
+        b"0 NotAnswer ",
+        b"0 BadForm ",
+        b"1 BadForm ",
+        b"8 StrayParen ",
+    ];
+    for (text, wanted) in texts.iter().zip(wanted) {
+        assert!(rt; is_told(rt.alloc(), States::First, text, wanted) == Some(true));
+    }
+}
+
+#[test]
+fn groups_that_are_missing(rt: HostRuntime) {
+    let texts = [
+        b"sat".as_slice(),
+        b"sat  ",
+        b"sat model",
+        b"sat () ()",
+        b"sat (model model)",
+        b"sat ((define-fun p ((x Int)) Bool true) model)",
+        b"sat ((define-fun p ((x Int)) Bool)) x",
+    ];
+    let wanted = [
+        b"3 BadForm ".as_slice(),
+        b"5 BadForm ",
+        b"4 BadForm ",
+        b"7 BadForm ",
+        b"11 BadForm ",
+        b"40 BadForm ",
+        b"5 BadForm ",
+    ];
+    for (text, wanted) in texts.iter().zip(wanted) {
+        assert!(rt; is_told(rt.alloc(), States::First, text, wanted) == Some(true));
+    }
+}
+
+#[test]
+fn parameters_that_do_not_fit(rt: HostRuntime) {
+    let texts = [
+        b"sat ((define-fun p (x) Bool true))".as_slice(),
+        b"sat ((define-fun p ((x)) Bool true))",
+        b"sat ((define-fun p ((x Int Int)) Bool true))",
+        b"sat ((define-fun p x Bool true))",
+        b"sat ((define-fun p ((1 Int)) Bool true))",
+        b"sat ((define-fun p ((let Int)) Bool true))",
+    ];
+    let wanted = [
+        b"5 BadForm ".as_slice(),
+        b"5 BadForm ",
+        b"5 BadForm ",
+        b"5 BadForm ",
+        b"5 BadForm ",
+        b"5 BadForm ",
+    ];
+    for (text, wanted) in texts.iter().zip(wanted) {
+        assert!(rt; is_told(rt.alloc(), States::First, text, wanted) == Some(true));
+    }
+}
+
+#[test]
+fn definitions_that_do_not_fit(rt: HostRuntime) {
+    let texts = [
+        b"sat ((define-fun (p) () Bool true))".as_slice(),
+        b"sat ((define-fun let () Bool true))",
+        b"sat ((declare-fun q () Bool true))",
+        b"sat ((define-fun q () Bool true true))",
+        b"sat (())",
+        b"sat ((define-fun and ((x Foo)) Bool y) q)",
+        b"sat ((define-fun p ((x Int)) Bool y)) z",
+        b"sat ((define-fun p ((x Int)) Bool true) |",
+    ];
+    let wanted = [
+        b"5 BadForm ".as_slice(),
+        b"5 BadForm ",
+        b"5 BadForm ",
+        b"5 BadForm ",
+        b"5 BadForm ",
+        b"39 BadForm ",
+        b"38 BadForm ",
+        b"40 OpenQuoted ",
+    ];
+    for (text, wanted) in texts.iter().zip(wanted) {
+        assert!(rt; is_told(rt.alloc(), States::First, text, wanted) == Some(true));
+    }
+}
+
+#[test]
+fn names_that_are_taken(rt: HostRuntime) {
+    let texts = [
+        b"sat ((define-fun and ((x Foo)) Bool y))".as_slice(),
+        b"sat ((define-fun |false| () Bool true))",
+        b"sat ((define-fun true () Bool true))",
+        b"sat ((define-fun red () Bool true))",
+        b"sat ((define-fun snd () Bool true))",
+        b"sat ((define-fun h ((x Foo) (x Int)) Bar y))",
+    ];
+    let wanted = [
+        b"5 NameTaken and".as_slice(),
+        b"5 NameTaken false",
+        b"5 NameTaken true",
+        b"5 NameTaken red",
+        b"5 NameTaken snd",
+        b"29 NameTaken x",
+    ];
+    for (text, wanted) in texts.iter().zip(wanted) {
+        assert!(rt; is_told(rt.alloc(), States::First, text, wanted) == Some(true));
+    }
+}
+
+#[test]
+fn names_that_stand_twice(rt: HostRuntime) {
+    let texts = [
+        b"sat ((define-fun q () Bool true) (define-fun q () Bool true))".as_slice(),
+        b"sat ((define-fun q () Bool true) (define-fun q ((x Foo) (x Int)) Bar z))",
+        b"sat ((define-fun h () Int 1) (define-fun p ((x Int)) Bool true) (define-fun h () Int 1) (define-fun and () Int 1))",
+    ];
+    let wanted = [b"33 Twice q".as_slice(), b"33 Twice q", b"64 Twice h"];
+    for (text, wanted) in texts.iter().zip(wanted) {
+        assert!(rt; is_told(rt.alloc(), States::First, text, wanted) == Some(true));
+    }
+}
+
+#[test]
+fn sorts_that_are_not_read(rt: HostRuntime) {
+    let texts = [
+        b"sat ((define-fun h ((x Foo) (y (Array Bool Int))) Bar z))".as_slice(),
+        b"sat ((define-fun h ((x Int) (y (Array Bool Int))) Bar z))",
+        b"sat ((define-fun h ((x 1)) Bar z))",
+        b"sat ((define-fun h ((x (Array Int (List Int)))) Bar z))",
+        b"sat ((define-fun h ((x (Array Int (Array Int (Array Int (Array Int (Array Int (Array Int (Array Int (Array Int (Array Int (Array Int (Array Int (Array Int (Array Int (Array Int (Array Int (Array Int Int)))))))))))))))))) Bar z))",
+        b"sat ((define-fun h ((x Int)) Bar y))",
+        b"sat ((define-fun h ((x Int)) \"Bar\" y))",
+    ];
+    let wanted = [
+        b"23 UnknownSort Foo".as_slice(),
+        b"31 ArrayIndex ",
+        b"23 BadCommand ",
+        b"34 BadCommand ",
+        b"23 SortTooDeep ",
+        b"29 UnknownSort Bar",
+        b"29 BadCommand ",
+    ];
+    for (text, wanted) in texts.iter().zip(wanted) {
+        assert!(rt; is_told(rt.alloc(), States::First, text, wanted) == Some(true));
+    }
+}
+
+#[test]
+fn bodies_that_are_not_read(rt: HostRuntime) {
+    let texts = [
+        b"sat ((define-fun h ((x Int)) Bool y))".as_slice(),
+        b"sat ((define-fun h ((x Int)) Bool (not (not x))))",
+        b"sat ((define-fun p ((x Int)) Bool (p x)))",
+        b"sat ((define-fun p ((x Int)) Bool q))",
+        b"sat ((define-fun h () Bool (k 1)) (define-fun k ((x Int)) Bool true))",
+        b"sat ((define-fun h ((a Int)) Bool true) (define-fun k () Bool (and a true)))",
+        b"sat ((define-fun h ((a Int)) Bool true) (define-fun k () Bool (h 1 2)))",
+        b"sat ((define-fun h ((a Int)) Bool true) (define-fun k () Bool (h true)))",
+    ];
+    let wanted = [
+        b"34 UnknownName y".as_slice(),
+        b"39 WrongSort ",
+        b"35 UnknownName p",
+        b"34 UnknownName q",
+        b"28 UnknownName k",
+        b"67 UnknownName a",
+        b"62 WrongCount ",
+        b"62 WrongSort ",
+    ];
+    for (text, wanted) in texts.iter().zip(wanted) {
+        assert!(rt; is_told(rt.alloc(), States::First, text, wanted) == Some(true));
+    }
+}
+
+#[test]
+fn definitions_of_other_sorts(rt: HostRuntime) {
+    let texts = [
+        b"sat ((define-fun h ((x Int)) Bool x))".as_slice(),
+        b"sat ((define-fun p ((x Bool)) Int x))",
+        b"sat ((define-fun p ((x Bool)) Bool x))",
+        b"sat ((define-fun p () Bool true))",
+        b"sat ((define-fun p ((x Int) (y Int)) Bool true))",
+        b"sat ((define-fun p ((x Int)) Int x))",
+        b"sat ((define-fun p ((x Int)) Bool true) (define-fun q ((x Int)) Bool true) (define-fun p ((x Int)) Bool true))",
+    ];
+    let wanted = [
+        b"5 WrongSort ".as_slice(),
+        b"5 WrongSort ",
+        b"5 WrongParams p",
+        b"5 WrongParams p",
+        b"5 WrongParams p",
+        b"5 WrongParams p",
+        b"40 WrongParams q",
+    ];
+    for (text, wanted) in texts.iter().zip(wanted) {
+        assert!(rt; is_told(rt.alloc(), States::First, text, wanted) == Some(true));
+    }
+}
+
+#[test]
+fn predicates_that_are_missing(rt: HostRuntime) {
+    let texts = [
+        b"sat ()".as_slice(),
+        b"sat (model) ; end",
         b"sat ((define-fun p ((x Int)) Bool true))",
-        b"sat ((define-fun p ((x Int)) Bool true) (define-fun q () Bool true)",
-        b"sat ((define-fun p ((x Int)) Bool true) (define-fun q () Bool true)) ()",
-        b"sat ((define-fun p ((x Int)) Bool true) (define-fun q () Bool true)) (exit)",
-        b"sat (define-fun p ((x Int)) Bool true) (define-fun q () Bool true)",
-        b"unsat ((define-fun p ((x Int)) Bool true) (define-fun q () Bool true))",
-        b"sat (model model (define-fun p ((x Int)) Bool true) (define-fun q () Bool true))",
-        b"sat ((define-fun p ((x Int)) Bool true) (define-fun q () Bool true) model)",
+        b"sat ((define-fun q () Bool true) (define-fun r ((x Int)) Bool true)) ",
     ];
-    for text in refused {
-        assert!(rt; is_read(rt.alloc(), text) == Some(false));
+    let wanted = [
+        b"6 Missing p".as_slice(),
+        b"17 Missing p",
+        b"40 Missing q",
+        b"69 Missing p",
+    ];
+    for (text, wanted) in texts.iter().zip(wanted) {
+        assert!(rt; is_told(rt.alloc(), States::First, text, wanted) == Some(true));
     }
 }
 
 #[test]
-fn each_live_predicate_has_one_definition(rt: HostRuntime) {
-    assert!(rt; is_read_with(rt.alloc(), b"(define-fun p ((q Int)) Bool true)") == Some(true));
-    let refused = [
-        b"".as_slice(),
-        b"(define-fun p ((x Int)) Bool true)(define-fun p ((x Int)) Bool true)",
-        b"(define-fun p ((x Int)) Bool true)(define-fun q () Bool true)",
-        b"(define-fun p ((x Int)) Bool true)(define-fun r ((x Int)) Bool true)",
-        b"(define-fun p ((x Int)) Bool true)(define-fun s () Bool true)",
-        b"(define-fun p ((x Bool)) Bool true)",
-        b"(define-fun p () Bool true)",
-        b"(define-fun p ((x Int) (y Int)) Bool true)",
-        b"(define-fun p ((x Int)) Int x)",
-        b"(define-fun p ((x Int)) Int true)",
-        b"(define-fun p ((x Int)) Bool x)",
-        b"(define-fun p ((x Int)) Bool)",
-        b"(define-fun p ((x Int)) Bool true true)",
-        b"(define-fun p (x Int) Bool true)",
-        b"(define-fun p ((x)) Bool true)",
-        b"(define-fun p ((x Real)) Bool true)",
-        b"(define-fun p ((1 Int)) Bool true)",
-        b"(define-fun (p) ((x Int)) Bool true)",
-        b"(define-const p Bool true)",
+fn definitions_that_are_read(rt: HostRuntime) {
+    let texts = [
+        b"sat((define-fun q()Bool true)(define-fun p((n Int))Bool(<= n 1)))".as_slice(),
+        b"|sat| (|model| (|define-fun| |p| ((|a b| |Int|)) |Bool| (= |a b| (- 5))) (define-fun q () Bool true)) ; no more",
     ];
-    for definitions in refused {
-        assert!(rt; is_read_with(rt.alloc(), definitions) == Some(false));
+    let wanted = [
+        b"1 0 - sat\n(\n(define-fun q () Bool true)\n(define-fun p ((x0 Int)) Bool (<= x0 1))\n)\n".as_slice(),
+        b"0 1 - sat\n(\n(define-fun p ((x0 Int)) Bool (= x0 (- 5)))\n(define-fun q () Bool true)\n)\n",
+    ];
+    for (text, wanted) in texts.iter().zip(wanted) {
+        assert!(rt; is_told(rt.alloc(), States::First, text, wanted) == Some(true));
+        assert!(rt; is_read_again(rt.alloc(), States::First, text) == Some(true));
     }
 }
 
 #[test]
-fn bodies_are_well_sorted(rt: HostRuntime) {
-    let read = [
-        b"true".as_slice(),
-        b"(<= x 170141183460469231731687303715884105727)",
-        b"(and (<= 0 x) (< x 10) (= x x) (= true false))",
-        b"(or (not (= (+ x 1) (- x 1))) (= x (- 5)) (= x (- x)))",
-        b"(forall ((y Int) (|and| Bool)) (or |and| (<= x y)))",
-        b"(exists ((x Bool)) x)",
-        b"(exists ((true Int)) (<= true x))",
-        b"(not (and (>= x 11) (> 20 x)))",
-    ];
-    for body in read {
-        assert!(rt; is_body(rt.alloc(), body) == Some(true));
-    }
-    let refused = [
-        b"x".as_slice(),
-        b"y",
-        b"1",
-        b"()",
-        b"(true)",
-        b"and",
-        b"(and true)",
-        b"(or)",
-        b"(and true x)",
-        b"(not true true)",
-        b"(not x)",
-        b"(= x true)",
-        b"(= x x x)",
-        b"(<= x true)",
-        b"(< 1 2 3)",
-        b"(<= 1)",
-        b"(>= 1)",
-        b"(> 1 2 3)",
-        b"(>= x true)",
-        b"(< true (- true))",
-        b"(= x (- true))",
-        b"(= x (+ 1))",
-        b"(= x (- 3 2 1))",
-        b"(= x (* 2 3))",
-        b"(=> true true)",
-        b"(ite true true true)",
-        b"(p x)",
-        b"q",
-        b"(q)",
-        b"(x true)",
-        b"(forall () true)",
-        b"(forall ((y Int) (y Bool)) true)",
-        b"(forall ((y Int)) y)",
-        b"(forall ((y Int)) true true)",
-        b"(forall true)",
-        b"(|forall| ((y Int)) true)",
-        b"(let ((y 1)) (<= y x))",
-        b"(! true :named a)",
-        b"\"true\"",
-        b"(<= x 1.0)",
-        b"(<= x #b1)",
-        b":true",
-    ];
-    for body in refused {
-        assert!(rt; is_body(rt.alloc(), body) == Some(false));
-    }
-}
-
-#[test]
-fn names_stand_for_the_innermost_variable(rt: HostRuntime) {
-    let alloc = rt.alloc();
-    let text = b"sat ((define-fun q () Bool false) (define-fun p ((x Int)) Bool
-(and (<= x (- 3)) (exists ((y Int) (x Bool)) (and x (forall ((x Int)) (< (- x) (+ y x))) (= y (- y 1)))) (>= x 0))))";
+fn a_helper_with_two_parameters(rt: HostRuntime) {
+    let text =
+        b"sat (model (define-fun h ((n Int) (b Bool)) Int (ite b n 0)) (define-fun p ((n Int)) Bool (<= (h n true) 10)) (define-fun q () Bool (exists ((y Int)) (p y))))".as_slice();
     let wanted =
-        b"10- false (and (<= x0 -3) (exists 2 (and x2 (forall 1 (< (- 0 x3) (+ x1 x3))) (= x1 (- x1 1)))) (<= 0 x0))";
-    match shown(alloc, text) {
-        Some(out) => assert!(rt; out.bytes() == wanted.as_slice()),
-        None => assert!(rt; false),
+        b"1 2 - sat\n(\n(define-fun lift!0 ((x0 Int) (x1 Bool)) Int (ite x1 x0 0))\n(define-fun p ((x0 Int)) Bool (<= (lift!0 x0 true) 10))\n(define-fun q () Bool (exists ((x0 Int)) (p x0)))\n)\n".as_slice();
+    assert!(rt; is_told(rt.alloc(), States::First, text, wanted) == Some(true));
+    assert!(rt; is_read_again(rt.alloc(), States::First, text) == Some(true));
+}
+
+#[test]
+fn names_that_binders_hide(rt: HostRuntime) {
+    let text =
+        b"sat ((define-fun r () Int 5) (define-fun p ((q Int)) Bool (forall ((p Int) (q Bool)) (or q (< r p)))) (define-fun q () Bool (p r)) (define-fun last () Bool q))".as_slice();
+    let wanted =
+        b"1 2 - sat\n(\n(define-fun lift!0 () Int 5)\n(define-fun p ((x0 Int)) Bool (forall ((x1 Int) (x2 Bool)) (or x2 (< lift!0 x1))))\n(define-fun q () Bool (p lift!0))\n(define-fun lift!1 () Bool q)\n)\n".as_slice();
+    assert!(rt; is_told(rt.alloc(), States::First, text, wanted) == Some(true));
+    assert!(rt; is_read_again(rt.alloc(), States::First, text) == Some(true));
+}
+
+#[test]
+fn definitions_over_datatypes(rt: HostRuntime) {
+    let text =
+        b"sat ((define-fun f ((c Color) (k Pair)) Bool (and ((_ is red) c) (= (fst k) c) (is-green (fst (mk c 1))))) (define-fun c () Color (as blue Color)) (define-fun p ((true Int)) Bool (<= true (snd (mk c true)))) (define-fun q () Bool (f c (mk red 2))))".as_slice();
+    let wanted =
+        b"2 3 - sat\n(\n(define-fun lift!0 ((x0 Color) (x1 Pair)) Bool (and ((_ is red) x0) (= (fst x1) x0) ((_ is green) (fst (mk x0 1)))))\n(define-fun lift!1 () Color blue)\n(define-fun p ((x0 Int)) Bool (<= x0 (snd (mk lift!1 x0))))\n(define-fun q () Bool (lift!0 lift!1 (mk red 2)))\n)\n".as_slice();
+    assert!(rt; is_told(rt.alloc(), States::First, text, wanted) == Some(true));
+    assert!(rt; is_read_again(rt.alloc(), States::First, text) == Some(true));
+}
+
+#[test]
+fn definitions_over_arrays(rt: HostRuntime) {
+    let text =
+        b"sat ((define-fun f ((a (Array Int Color))) (Array Int Color) (store a 0 red)) (define-fun p ((i Int)) Bool (let ((a ((as const (Array Int Color)) green)) (i 3)) (= (select (f a) i) blue))) (define-fun q () Bool (! (and (forall () true)) :named n)))".as_slice();
+    let wanted =
+        b"1 2 - sat\n(\n(define-fun lift!0 ((x0 (Array Int Color))) (Array Int Color) (store x0 0 red))\n(define-fun p ((x0 Int)) Bool (= (select (lift!0 ((as const (Array Int Color)) green)) 3) blue))\n(define-fun q () Bool true)\n)\n".as_slice();
+    assert!(rt; is_told(rt.alloc(), States::First, text, wanted) == Some(true));
+    assert!(rt; is_read_again(rt.alloc(), States::First, text) == Some(true));
+}
+
+#[test]
+fn helpers_beside_names_in_use(rt: HostRuntime) {
+    let text =
+        b"sat ((define-fun goal!0 ((b Bool)) Bool b) (define-fun h () Int 1) (define-fun lift!0 ((x Int)) Bool (= x h)) (define-fun goal!1 () Int 7) (define-fun x0 () Bool (goal!0 true)))".as_slice();
+    let wanted =
+        b"2 4 0 sat\n(\n(define-fun goal!0 ((x!0 Bool)) Bool x!0)\n(define-fun lift!1 () Int 1)\n(define-fun lift!0 ((x!0 Int)) Bool (= x!0 lift!1))\n(define-fun lift!2 () Int 7)\n(define-fun x0 () Bool (goal!0 true))\n)\n".as_slice();
+    assert!(rt; is_told(rt.alloc(), States::Second, text, wanted) == Some(true));
+    assert!(rt; is_read_again(rt.alloc(), States::Second, text) == Some(true));
+}
+
+#[test]
+fn helpers_that_are_missing(rt: HostRuntime) {
+    let texts = [
+        b"sat ((define-fun lift!0 ((x Int)) Bool true) (define-fun x0 () Bool true))".as_slice(),
+        b"sat ((define-fun goal!0 () Bool true))",
+    ];
+    let wanted = [b"74 Missing goal!0".as_slice(), b"5 WrongParams goal!0"];
+    for (text, wanted) in texts.iter().zip(wanted) {
+        assert!(rt; is_told(rt.alloc(), States::Second, text, wanted) == Some(true));
     }
 }
 
-/// A body of that depth, of nested negations of `true`.
-fn nested(alloc: Global, depth: usize) -> Result<ByteText, NoMemory> {
+/// An answer with so many helpers, and `rest` behind them.
+fn answer_of(alloc: Global, count: usize, rest: &[u8]) -> Result<ByteText, NoMemory> {
     let mut text = ByteText::new(alloc);
-    for _ in 1..depth {
-        text.extend(b"(not ")?;
+    text.extend(b"sat (")?;
+    for i in 0..count {
+        text.extend(format!(in alloc; "(define-fun h{i} () Int 1)")?.as_bytes())?;
     }
-    text.extend(b"true")?;
-    for _ in 1..depth {
-        text.push(b')')?;
-    }
+    text.extend(rest)?;
+    text.push(b')')?;
     Ok(text)
 }
 
-/// Whether a body of that depth is read.
-fn is_read_at(alloc: Global, depth: usize) -> Option<bool> {
-    let body = nested(alloc, depth).ok()?;
-    is_body(alloc, body.bytes())
-}
-
-/// Whether a body of an `and` on that number of leaves is read.
-fn is_read_of(alloc: Global, leaves: usize) -> Option<bool> {
-    let mut body = ByteText::new(alloc);
-    body.extend(b"(and").ok()?;
-    for _ in 0..leaves {
-        body.extend(b" true").ok()?;
-    }
-    body.extend(b")").ok()?;
-    is_body(alloc, body.bytes())
+/// The fault of such an answer for the first state, which stands at its length; `None` where memory was refused.
+fn is_refused(alloc: Global, count: usize, rest: &[u8], wanted: &[u8]) -> Option<bool> {
+    let text = answer_of(alloc, count, rest).ok()?;
+    let place = text.bytes().len();
+    let mut fault = ByteText::new(alloc);
+    fault
+        .extend(format!(in alloc; "{place} ").ok()?.as_bytes())
+        .ok()?;
+    fault.extend(wanted).ok()?;
+    is_told(alloc, States::First, text.bytes(), fault.bytes())
 }
 
 #[test]
-fn bodies_are_within_the_limits(rt: HostRuntime) {
-    assert!(rt; is_read_at(rt.alloc(), 900) == Some(true));
-    assert!(rt; is_read_at(rt.alloc(), 901) == Some(false));
-    assert!(rt; is_read_of(rt.alloc(), 262143) == Some(true));
-    assert!(rt; is_read_of(rt.alloc(), 262144) == Some(false));
+fn too_many_definitions(rt: HostRuntime) {
+    let both = b"(define-fun p ((x Int)) Bool true)(define-fun q () Bool true)";
+    assert!(rt; is_refused(rt.alloc(), 65_535, both, b"TooMany L7") == Some(true));
 }

@@ -3,7 +3,7 @@
 use chc_sexpr::{TextErr, TextFault};
 use chc_sorts::NoMemory;
 use std::alloc::AllocError;
-use std::fmt;
+use std::{fmt, io};
 
 /// Why a benchmark gives no number.
 #[derive(Debug, Drop)]
@@ -14,6 +14,8 @@ pub enum Failure {
     TooLong,
     /// The script has a fault.
     Refused(TextFault),
+    /// The processor time couldn't be asked for.
+    NoClock,
     /// Memory was refused.
     NoMemory,
 }
@@ -22,13 +24,17 @@ impl fmt::Display for Failure {
     fn fmt<W: fmt::Write>(&self, f: &mut fmt::Formatter<W>) -> fmt::Result {
         match self {
             Failure::NoBenchmark => {
-                write!(f, "usage: bench_scripts read N | bench_scripts print N")
+                write!(
+                    f,
+                    "usage: bench_scripts read N, or print, steps, unreached or unneeded in place of read"
+                )
             }
             Failure::TooLong => write!(f, "too long"),
             Failure::Refused(fault) => {
                 let place = fault.place;
                 write!(f, "refused at {place}: {:?}", fault.fault)
             }
+            Failure::NoClock => write!(f, "no clock"),
             Failure::NoMemory => write!(f, "no memory"),
         }
     }
@@ -37,6 +43,12 @@ impl fmt::Display for Failure {
 impl From<AllocError> for Failure {
     fn from(_refused: AllocError) -> Failure {
         Failure::NoMemory
+    }
+}
+
+impl From<io::Error> for Failure {
+    fn from(_error: io::Error) -> Failure {
+        Failure::NoClock
     }
 }
 

@@ -1,22 +1,27 @@
-//! A benchmark of the reader of scripts and of their text. `bench_scripts read N` reads a script with a chain of N
-//! predicates and N clauses, and prints how many clauses it has. `bench_scripts print N` reads it and prints how many bytes
-//! the text of its state has.
+//! A benchmark of the reader of scripts, of their text and of normalising them. `bench_scripts read N` reads a script with a
+//! chain of N predicates and N clauses, and prints how many clauses it has. `bench_scripts print N` reads it and prints how
+//! many bytes the text of its state has. `bench_scripts steps N` reads a script with such a chain and normalises its state,
+//! and prints the number of clauses before and after, that of the steps, and the processor time of both phases. With
+//! `unreached` or `unneeded` in place of `steps` no derivation reaches a predicate of the chain, or no query needs one.
 #![tactic(auto)]
 
 mod benchmark;
 mod failure;
+mod outcome;
 mod texts;
 
 use crate::benchmark::{Benchmark, benchmark_of, result_of};
 use crate::failure::Failure;
+use crate::outcome::Outcome;
 use chc_sorts::NoMemory;
 use std::alloc::Global;
 use std::io::ErrorKind;
 use std::process::ExitCode;
 use std::rt::Env;
+use std::time::CpuClock;
 use std::{env, io};
 
-/// The exit status where no number is printed.
+/// The exit status where there is nothing to print.
 const FAILED: u8 = 1;
 
 /// The benchmark that the words after the program's name ask for, or `None` where they ask for none.
@@ -34,19 +39,19 @@ fn asked<R: Env + AllocGlobal>(rt: &R, alloc: Global) -> Result<Option<Benchmark
     }
 }
 
-/// The number that the benchmark comes to.
-fn measured<R: Env + AllocGlobal>(rt: &R) -> Result<u64, Failure> {
+/// What the benchmark comes to.
+fn measured<R: Env + AllocGlobal + CpuClock>(rt: &R) -> Result<Outcome, Failure> {
     let alloc = rt.alloc();
     match asked(rt, alloc)? {
-        Some(benchmark) => result_of(alloc, &benchmark),
+        Some(benchmark) => result_of(rt, alloc, &benchmark),
         None => Err(Failure::NoBenchmark),
     }
 }
 
-/// Prints the number, or why there is none.
-fn told<R: Print>(rt: &R, outcome: &Result<u64, Failure>) -> io::Result<()> {
+/// Prints what it came to, or why it came to nothing.
+fn told<R: Print>(rt: &R, outcome: &Result<Outcome, Failure>) -> io::Result<()> {
     match outcome {
-        Ok(number) => println!(rt; "{number}"),
+        Ok(outcome) => println!(rt; "{outcome}"),
         Err(failure) => println!(rt; "{failure}"),
     }
 }

@@ -1,8 +1,7 @@
 pub mod Lines
-pub mod Replays
-pub mod SliceRuns
-pub mod ScriptSorts
-pub mod Backs
+pub mod Reasons
+pub mod Kept
+pub mod Carried
 pub mod LiftLaws
 pub mod RunLaws
 pub mod NormaliseRuns

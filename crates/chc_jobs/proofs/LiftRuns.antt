@@ -4,12 +4,11 @@ use Rattle.std.specs.Prelude.{Some}
 use Rattle.chc_source.specs.Outside.{Outside, bytes_at, OnlyReads, OnlyWrites, IsCutShort}
 use Rattle.chc_state.specs.Meaning.{In}
 use Rattle.chc_jobs.specs.Lifting.{LiftsModel}
-use Rattle.chc_jobs.specs.Runs.{FileWord, word_at, Given, Job, most_bytes, Touches, Told, AreShort, HoldTexts, lift_files, lift_job, LiftMakes, LiftRefuses, LiftComes, LiftCompletes}
+use Rattle.chc_jobs.specs.Runs.{FileWord, word_at, Given, Job, most_bytes, Touches, Told, AreShort, HoldTexts, lift_files, lift_job, LiftMakes, LiftRefuses, LiftComes, LiftableIsLifted, LiftCompletes}
 use Rattle.chc_jobs.specs.Refusals.{WordReadRefusal, WordWriteRefusal, ReadRefusal, BytesRefusal, InputRefusal, OutputRefusal, OnlyReadsAll, AreRead}
 use Rattle.chc_jobs.specs.declared.top.status.Outcome.TheVariants as outcome
 use Rattle.chc_jobs.specs.declared.top.status.Status.{Status}
 use Rattle.chc_jobs.specs.declared.top.status.Status.TheVariants as status
-use Rattle.chc_jobs.proofs.LiftLaws.{liftable}
 use Rattle.chc_jobs.proofs.RunLaws.{reads-one, reads-none, reads-then, bytes-same, bytes-later, read_refused, input_unread, input_refused, ended_early, output_refused, all_done, first_refused, read_short, Touches-reads, Touches-writes, Touches-then, is_complete}
 
 short_as : (a : Outside) (name : List ℕ) (u : FileWord) (text : List ℕ) → u.name ≡ name → text ≡ bytes_at a name → length text ≤ most_bytes → length (bytes_at a u.name) ≤ most_bytes
@@ -157,7 +156,7 @@ module _ (script trace answer out : List ℕ) where
   touches-lift a b c r w =
       Touches-then (lift_files script trace answer out) a b c (touches-inputs a b r) (Touches-writes (lift_files script trace answer out) (word_at 4 out) b c (inl refl) w)
 
-pub lift_completes : (script trace answer out : List ℕ) (a b : Outside) (s : Status) → LiftComes script trace answer out a b s → LiftCompletes script trace answer out a b s
-lift_completes script trace answer out a b s h t f short valid =
+pub lift_completes : LiftableIsLifted → (script trace answer out : List ℕ) (a b : Outside) (s : Status) → LiftComes script trace answer out a b s → LiftCompletes script trace answer out a b s
+lift_completes liftable script trace answer out a b s h t f short valid =
     is_complete (lift_files script trace answer out) (lift_job (bytes_at a script) (bytes_at a trace) (bytes_at a answer)) a b s
     (liftable (bytes_at a script) (bytes_at a trace) (bytes_at a answer) valid) h t f short

@@ -1,10 +1,10 @@
 -- What the parts of `normalise` come to on its files.
 use Rattle.std.proofs.Common.{◌≡◌, ◌≢◌, ℕ, ◌<◌, ◌≤◌, List, [], ◌∷◌, length, refl, sym, ◌∙◌, ap, subst, inl, inr, arith}
-use Rattle.std.specs.Prelude.{Some}
+use Rattle.std.specs.Prelude.{Some, Ok}
 use Rattle.chc_source.specs.Outside.{Outside, bytes_at, OnlyReads, OnlyWrites, IsCutShort}
 use Rattle.chc_state.specs.Meaning.{In}
 use Rattle.chc_script.specs.Scripts.{ScriptView}
-use Rattle.first_script.specs.FirstScripts.{ReadsFirst}
+use Rattle.chc_script.specs.WholeScripts.{Says}
 use Rattle.chc_jobs.specs.Jobs.{Normalises}
 use Rattle.chc_jobs.specs.Runs.{FileWord, word_at, Given, most_bytes, Touches, Told, AreShort, HoldTexts, NoFaults, IsDoneOrFree, normalise_files, normalise_job, NormaliseMakes, NormaliseRefuses, NormaliseComes, NormaliseCompletes}
 use Rattle.chc_jobs.specs.Refusals.{WordReadRefusal, WordWriteRefusal, ReadRefusal, BytesRefusal, InputRefusal, OutputRefusal, OnlyReadsAll}
@@ -105,10 +105,10 @@ module _ (script out trace : List ℕ) where
       (only_script a b r) short (makes a x y before after steps made) h
 
 -- a script isn't refused
-readable : (bytes : List ℕ) (X : ScriptView) → ReadsFirst bytes X → (s : Status) → NormaliseRefuses bytes s → ⊥
+readable : (bytes : List ℕ) (X : ScriptView) → Says bytes (Ok X) → (s : Status) → NormaliseRefuses bytes s → ⊥
 readable bytes X x (status.Done o) h = h
 readable bytes X x status.Usage h = h
-readable bytes X x (status.ScriptRefused f) h = h.1 X x
+readable bytes X x (status.ScriptRefused f) h = h.0 X x
 readable bytes X x (status.TraceRefused f) h = h
 readable bytes X x (status.Foreign f) h = h
 readable bytes X x (status.AnswerRefused f) h = h

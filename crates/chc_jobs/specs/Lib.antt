@@ -1,6 +1,5 @@
-pub mod Slicing
-pub mod Replaying
 pub mod Jobs
+pub mod Answering
 pub mod Lifting
 pub mod LiftFaults
 pub mod Lines

@@ -1,9 +1,12 @@
 -- The line of a status, and what it means to put it.
-use Rattle.std.specs.Prelude.{◌≡◌, ℕ, List, [], ◌∷◌, ◌++◌, take, codes, decimal, IsTrue, Result, Ok, Err}
+use Rattle.std.specs.Prelude.{◌≡◌, ℕ, Bool, true, false, cond, List, [], ◌∷◌, ◌++◌, take, codes, decimal, IsTrue, Result, Ok, Err}
 use Rattle.chc_source.specs.Outside.{Rose}
 use Rattle.chc_source.specs.Output.{Output, GoesOn}
 use Rattle.chc_source.specs.declared.sink.Failed.{Failed}
 use Rattle.chc_sexpr.specs.Faults.{fault_name}
+use Rattle.chc_sexpr.specs.Symbols.{symbol_text}
+use Rattle.chc_sexpr.specs.declared.fault.Fault.{Fault}
+use Rattle.chc_sexpr.specs.declared.fault.Fault.TheVariants as fault
 use Rattle.chc_sexpr.specs.declared.fault.TextFault.{TextFault}
 use Rattle.chc_jobs.specs.declared.lift.foreign.Foreign.{Foreign}
 use Rattle.chc_jobs.specs.declared.lift.foreign.Foreign.TheVariants as foreign
@@ -41,9 +44,29 @@ foreign_line (foreign.Source kept found) = codes "foreign trace: source"
 foreign_line (foreign.Step k) = counted (codes "foreign trace: step ") k
 foreign_line (foreign.Target kept found) = codes "foreign trace: target"
 
+-- whether a fault is about a name
+abbrev pub is_about_name : Fault → Bool
+is_about_name fault.UnknownName = true
+is_about_name fault.UnknownSort = true
+is_about_name fault.NameTaken = true
+is_about_name fault.NotSupported = true
+is_about_name fault.OtherLogic = true
+is_about_name fault.UnknownCommand = true
+is_about_name fault.NotPredicate = true
+is_about_name fault.NotWellFounded = true
+is_about_name fault.TooMany = true
+is_about_name fault.Twice = true
+is_about_name fault.WrongParams = true
+is_about_name fault.Missing = true
+is_about_name other = false
+
+-- what is wrong, with the name that it is about where there is one, as a symbol
+abbrev pub reason : TextFault → List ℕ
+reason f = cond (is_about_name f.fault) ((fault_name f.fault ++ codes " ") ++ symbol_text f.name) (fault_name f.fault)
+
 -- a text, and then a fault with its place
 abbrev pub fault_line : List ℕ → TextFault → List ℕ
-fault_line text f = (counted text f.place ++ codes ": ") ++ fault_name f.fault
+fault_line text f = (counted text f.place ++ codes ": ") ++ reason f
 
 -- the line of a status, without its line feed
 abbrev pub words_of : Status → List ℕ

@@ -1,17 +1,17 @@
 -- What a run of the program comes to, by the files before and after it and its status.
-use Rattle.std.specs.Prelude.{◌≡◌, ◌≢◌, ◌⊎◌, ◌≤◌, ◌<◌, ℕ, List, [], ◌∷◌, Some, IsTrue, length}
+use Rattle.std.specs.Prelude.{◌≡◌, ◌≢◌, ◌⊎◌, ◌≤◌, ◌<◌, ℕ, List, [], ◌∷◌, Some, Ok, IsTrue, length}
 use Rattle.chc_source.specs.Outside.{Outside, bytes_at, Rose, Grows, IsCutShort}
 use Rattle.chc_state.specs.Meaning.{In}
 use Rattle.chc_script.specs.Scripts.{ScriptView}
-use Rattle.first_script.specs.FirstScripts.{ReadsFirst}
+use Rattle.chc_script.specs.WholeScripts.{Says}
 use Rattle.chc_state.specs.States.{StateView}
 use Rattle.chc_state.specs.declared.defs.Defs.{Defs}
 use Rattle.chc_trace.specs.declared.trace.Trace.{Trace}
 use Rattle.chc_trace.specs.Traces.{SaysTrace}
-use Rattle.ans_model.specs.Models.{SaysModel}
-use Rattle.chc_jobs.specs.Jobs.{Normalises, Belongs, ReadsNone, not_yet_fault}
+use Rattle.ans_model.specs.Answers.{Says as SaysModel}
+use Rattle.chc_jobs.specs.Jobs.{Normalises, Belongs, IsNoScript}
 use Rattle.chc_jobs.specs.Lifting.{LiftsModel}
-use Rattle.chc_jobs.specs.LiftFaults.{IsNoTrace, IsForeignTrace, IsNoAnswer}
+use Rattle.chc_jobs.specs.LiftFaults.{IsUnreadTrace, IsForeignTrace, IsUnreadAnswer}
 use Rattle.chc_jobs.specs.declared.top.status.Outcome.{Outcome}
 use Rattle.chc_jobs.specs.declared.top.status.Outcome.TheVariants as outcome
 use Rattle.chc_jobs.specs.declared.top.status.Status.{Status}
@@ -173,7 +173,7 @@ pub record NormaliseMakes (script : List ℕ) (texts : List (List ℕ)) (o : Out
 
 -- which refusals normalising a script's bytes gives: that they are no script
 abbrev pub NormaliseRefuses : List ℕ → Status → Type 0
-NormaliseRefuses script (status.ScriptRefused f) = (f ≡ not_yet_fault) × ReadsNone script
+NormaliseRefuses script (status.ScriptRefused f) = IsNoScript script f
 NormaliseRefuses script other = ⊥
 
 abbrev pub normalise_job : List ℕ → Job
@@ -189,10 +189,10 @@ pub record LiftMakes (script trace answer : List ℕ) (texts : List (List ℕ)) 
 
 -- which refusals lifting gives: of the script, of the trace, of a trace that isn't the script's, and of the answer
 abbrev pub LiftRefuses : List ℕ → List ℕ → List ℕ → Status → Type 0
-LiftRefuses script trace answer (status.ScriptRefused f) = (f ≡ not_yet_fault) × ReadsNone script
-LiftRefuses script trace answer (status.TraceRefused f) = (f ≡ not_yet_fault) × IsNoTrace script trace
+LiftRefuses script trace answer (status.ScriptRefused f) = IsNoScript script f
+LiftRefuses script trace answer (status.TraceRefused f) = IsUnreadTrace script trace f
 LiftRefuses script trace answer (status.Foreign f) = IsForeignTrace script trace f
-LiftRefuses script trace answer (status.AnswerRefused f) = (f ≡ not_yet_fault) × IsNoAnswer script trace answer
+LiftRefuses script trace answer (status.AnswerRefused f) = IsUnreadAnswer script trace answer f
 LiftRefuses script trace answer other = ⊥
 
 abbrev pub lift_job : List ℕ → List ℕ → List ℕ → Job
@@ -205,7 +205,7 @@ NormaliseComes script out trace old new s = Comes (normalise_files script out tr
 -- a script that is read is normalised
 abbrev pub NormaliseCompletes : List ℕ → List ℕ → List ℕ → Outside → Outside → Status → Type 0
 NormaliseCompletes script out trace old new s =
-    IsComplete (normalise_files script out trace) old new ((X : ScriptView) × ReadsFirst (bytes_at old script) X) s
+    IsComplete (normalise_files script out trace) old new ((X : ScriptView) × Says (bytes_at old script) (Ok X)) s
 
 -- what `lift` comes to on the files of these names
 abbrev pub LiftComes : List ℕ → List ℕ → List ℕ → List ℕ → Outside → Outside → Status → Type 0
@@ -218,10 +218,14 @@ pub record AreLiftable (script trace answer : List ℕ) : Type 0 where
   pub t : Trace
   pub Z : StateView
   pub d : Defs
-  pub reads : ReadsFirst script X
+  pub reads : Says script (Ok X)
   pub says : SaysTrace trace t
   pub belongs : Belongs script X.names X.state t Z
-  pub answers : SaysModel answer Z X.names d
+  pub answers : SaysModel Z X.names answer (Ok d)
+
+-- such bytes aren't refused, for whatever reason
+abbrev pub LiftableIsLifted : Type 0
+LiftableIsLifted = (script trace answer : List ℕ) → AreLiftable script trace answer → (s : Status) → LiftRefuses script trace answer s → ⊥
 
 -- a script, a trace that belongs to it and an answer for the state that it leads to are lifted
 abbrev pub LiftCompletes : List ℕ → List ℕ → List ℕ → List ℕ → Outside → Outside → Status → Type 0

@@ -1,21 +1,21 @@
 //! The jobs over byte lists.
 
-mod back;
 mod copying;
 mod foreign;
 mod model;
 mod reading;
-mod replay;
-mod slicing;
 mod steps;
 
-ghost use Rattle.std.specs.Prelude.{◌≡◌, ◌<◌, ◌^◌, length, IfOk, IfErr};
+ghost use Rattle.std.specs.Prelude.{◌≡◌, ◌<◌, ◌^◌, length, Err, IfOk, IfErr};
 ghost use Rattle.sha2.specs.Sha256.{sha256};
 ghost use Rattle.chc_trace.specs.Traces.{trace_lines, SaysTrace};
-ghost use Rattle.chc_jobs.specs.Jobs.{IsOnlyText, Finishes, Normalises, IsRefusal, ReadsNone};
+ghost use Rattle.chc_state.specs.Names.{AreNamesOf};
+ghost use Rattle.chc_script.specs.WholeScripts.{IsScriptReading};
+ghost use Rattle.chc_print.specs.Script.{IsScriptText};
+ghost use Rattle.chc_jobs.specs.Jobs.{Finishes, Normalises, SaysItself};
 
 use chc_print::script_text;
-use chc_script::Script;
+use chc_script::{Script, read_script};
 use chc_sexpr::TextErr;
 use chc_sorts::List;
 use chc_source::{ByteText, NoMemory};
@@ -23,9 +23,9 @@ use chc_state::{Names, State, Step};
 use chc_trace::{Trace, digest, trace_text};
 pub use foreign::Foreign;
 pub use model::{LiftErr, Lifted, lift};
-use reading::read_script;
-use slicing::{Sliced, slice};
+use read_again::printed_scripts_are_read;
 use std::alloc::Global;
+use steps::simplify;
 
 /// A normalised script.
 #[derive(Debug, Drop)]
@@ -68,6 +68,19 @@ fn traced(alloc: Global, script: &[u8], steps: List<Step>, out: ByteText) -> Res
     })
 }
 
+/// The text of the state's script, which says the script again.
+fn print_script(alloc: Global, state: &State, names: &Names) -> Result<ByteText, NoMemory>
+    requires { AreNamesOf state.now names.now }
+    ensures text { IfOk result (IsScriptText state.now names.now) }
+    ensures again { IfOk result (SaysItself state.now names.now) }
+{
+    printed_scripts_are_read();
+    state.sig().made_of_groups();
+    let _clauses = state.clauses();
+    let text = script_text(alloc, state, names)?;
+    Ok(text)
+}
+
 /// How many clauses the state has: at most 65,536.
 fn clause_count(state: &State) -> u32
     ensures { result ≡ length state.now.clauses }
@@ -76,42 +89,34 @@ fn clause_count(state: &State) -> u32
     clauses.len() as u32
 }
 
-/// The text of a state.
-fn print(alloc: Global, state: &State, names: &Names) -> Result<ByteText, NoMemory>
-    ensures { IfOk result (IsOnlyText state.now names.now) }
-{
-    let text = script_text(alloc, state, names)?;
-    Ok(text)
-}
-
-/// The text of the state that slices leave of this one, and the trace that leads there.
+/// The text of the state in which no kind of step is left to take, and the trace that leads there.
 fn finish(alloc: Global, script: &[u8], names: &Names, state: State) -> Result<Normalised, NoMemory>
+    requires { AreNamesOf state names.now }
     ensures { IfOk result (λ n. Finishes script.now names.now state n.out n.trace n.before n.after n.steps) }
 {
     let before = clause_count(&state);
-    let Sliced { state, steps } = slice(alloc, state)?;
-    let after = clause_count(&state);
-    let count = steps.len() as u64;
-    let out = print(alloc, &state, names)?;
-    let texts = traced(alloc, script, steps, out)?;
+    let simplified = simplify(alloc, state)?;
+    let after = clause_count(&simplified.state);
+    let steps = simplified.steps.len() as u64;
+    let out = print_script(alloc, &simplified.state, names)?;
+    let texts = traced(alloc, script, simplified.steps, out)?;
     Ok(Normalised {
         out: texts.out,
         trace: texts.trace,
         before,
         after,
-        steps: count,
+        steps,
     })
 }
 
 /// Simplifies a script of at most 4,294,967,295 bytes without changing its answer: in every world false
 /// is derived from the printed clauses exactly where it is from the script's. The trace is the script's own.
 ///
-/// Errors: `At` with the fault `NotYet` at place 0 where the bytes are no script that this version
-/// reads, `NoMemory`.
+/// Errors: `At` the first fault where the bytes are no script, `NoMemory`.
 pub fn normalise(alloc: Global, script: &[u8]) -> Result<Normalised, TextErr>
     requires { length script.now < 2 ^ 32 }
     ensures ok { IfOk result (λ n. Normalises script.now n.out n.trace n.before n.after n.steps) }
-    ensures refused { IfErr result (IsRefusal (ReadsNone script.now)) }
+    ensures refused { IfErr result (λ e. IsScriptReading script.now (Err e)) }
 {
     let Script { state, names, .. } = read_script(alloc, script)?;
     let made = finish(alloc, script, &names, state)?;

@@ -68,12 +68,49 @@ const LIFTED_LINE: &[u8] = b"lifted: sat, definitions 3\n";
 
 const LINE: &[u8] = b"normalised: clauses 5 to 3, steps 2\n";
 
-const NOT_YET: &[u8] = b"(set-logic HORN)\n\
+// A script with a parallel binding.
+const PARALLEL: &[u8] = b"(set-logic HORN)\n\
 (declare-fun p (Int) Bool)\n\
 (assert (forall ((x Int)) (=> (< 5 x) (p x))))\n\
 (assert (forall ((x Int) (y Int)) (=> (and (p x) (let ((x y) (y x)) (< x y))) (p y))))\n\
 (assert (forall ((x Int)) (=> (and (p x) (< x 0)) false)))\n\
 (check-sat)\n\
+";
+
+const PARALLEL_OUT: &[u8] = b"(set-logic HORN)\n\
+(declare-fun p (Int) Bool)\n\
+(assert (forall ((x0 Int)) (=> (< 5 x0) (p x0))))\n\
+(assert (forall ((x0 Int) (x1 Int)) (=> (and (p x0) (< x1 x0)) (p x1))))\n\
+(assert (forall ((x0 Int)) (=> (and (p x0) (< x0 0)) false)))\n\
+(check-sat)\n\
+";
+
+const PARALLEL_TRACE: &[u8] = b"(chc-trace 1)\n\
+(source \"e2cc909a0cbb95d02c7c421a7bd5a17cd609459f31d3791ac06a55cca1974cde\")\n\
+(target \"(set-logic HORN)\n\
+(declare-fun p (Int) Bool)\n\
+(assert (forall ((x0 Int)) (=> (< 5 x0) (p x0))))\n\
+(assert (forall ((x0 Int) (x1 Int)) (=> (and (p x0) (< x1 x0)) (p x1))))\n\
+(assert (forall ((x0 Int)) (=> (and (p x0) (< x0 0)) false)))\n\
+(check-sat)\n\
+\")\n\
+";
+
+// A script with the greatest numeral.
+const GREATEST: &[u8] =
+    b"(set-logic HORN)(assert (< 0 170141183460469231731687303715884105727))(check-sat)";
+
+const GREATEST_OUT: &[u8] = b"(set-logic HORN)\n\
+(assert (=> (not (< 0 170141183460469231731687303715884105727)) false))\n\
+(check-sat)\n\
+";
+
+const GREATEST_TRACE: &[u8] = b"(chc-trace 1)\n\
+(source \"f7e23166df49dee60376344a8ef671d9ed1bd623ffeaee18745eba36fc1f09a6\")\n\
+(target \"(set-logic HORN)\n\
+(assert (=> (not (< 0 170141183460469231731687303715884105727)) false))\n\
+(check-sat)\n\
+\")\n\
 ";
 
 fn words(alloc: Global, texts: &[&str]) -> Result<Vec<Word>, NoMemory> {
@@ -124,11 +161,13 @@ fn first_run_in_pieces(rt: HostRuntime) -> Result<(), Fail> {
 #[test]
 fn bytes_of_first_run(rt: HostRuntime) -> Result<(), Fail> {
     let alloc = rt.alloc();
-    let made = normalise(alloc, SCRIPT).ok().expect(&rt, "a first script");
+    let made = normalise(alloc, SCRIPT)
+        .ok()
+        .expect(&rt, "a script that is read");
     assert_eq!(rt; made.out.bytes(), OUT);
     assert_eq!(rt; made.trace.bytes(), TRACE);
     assert_eq!(rt; (made.before, made.after, made.steps), (5, 3, 2));
-    let refused = normalise(alloc, NOT_YET);
+    let refused = normalise(alloc, b"");
     assert!(rt; matches!(refused, Err(TextErr::At(_))));
     Ok(())
 }
@@ -188,16 +227,101 @@ fn trace_fails(rt: HostRuntime) -> Result<(), Fail> {
     Ok(())
 }
 
-#[test]
-fn not_yet_script(rt: HostRuntime) -> Result<(), Fail> {
-    let alloc = rt.alloc();
+// Whether `normalise` refuses this script with this line, and writes nothing.
+fn refuses_script(alloc: Global, script: &[u8], line: &[u8]) -> Result<bool, NoMemory> {
     let mut files = MemFiles::new(alloc, 1_000_000);
-    files.hold("script", NOT_YET)?;
+    files.hold("script", script)?;
     let mut say = MemSink::new(alloc, 1_000)?;
     let status = normalise_files(alloc, &mut files, &mut say)?;
-    assert_eq!(rt; status.code(), 2);
-    assert_eq!(rt; say.taken(), b"script refused at 0: NotYet\n".as_slice());
-    assert_eq!(rt; files.held("out"), None);
+    let nothing = files.held("out").is_none() && files.held("trace").is_none();
+    Ok(status.code() == 2 && nothing && say.taken() == line)
+}
+
+// Whether `normalise` makes these texts of the script, and says this line.
+fn normalises(
+    alloc: Global,
+    script: &[u8],
+    out: &[u8],
+    trace: &[u8],
+    line: &[u8],
+) -> Result<bool, NoMemory> {
+    let mut files = MemFiles::new(alloc, 1_000_000);
+    files.hold("script", script)?;
+    let mut say = MemSink::new(alloc, 1_000)?;
+    let status = normalise_files(alloc, &mut files, &mut say)?;
+    let made = files.held("out") == Some(out) && files.held("trace") == Some(trace);
+    Ok(status.code() == 0 && made && say.taken() == line)
+}
+
+#[test]
+fn parallel_let(rt: HostRuntime) -> Result<(), Fail> {
+    let alloc = rt.alloc();
+    let line = b"normalised: clauses 3 to 3, steps 0\n".as_slice();
+    assert!(rt; normalises(alloc, PARALLEL, PARALLEL_OUT, PARALLEL_TRACE, line)?);
+    Ok(())
+}
+
+// So many bytes.
+fn repeated(alloc: Global, byte: u8, times: usize) -> Result<ByteText, NoMemory> {
+    let mut text = ByteText::new(alloc);
+    for _ in 0..times {
+        text.push(byte)?;
+    }
+    Ok(text)
+}
+
+#[test]
+fn greatest_numeral(rt: HostRuntime) -> Result<(), Fail> {
+    let alloc = rt.alloc();
+    let line = b"normalised: clauses 1 to 1, steps 0\n".as_slice();
+    assert!(rt; normalises(alloc, GREATEST, GREATEST_OUT, GREATEST_TRACE, line)?);
+    let past = exchanged(alloc, GREATEST, b"727)", b"728)")?;
+    let line = b"script refused at 29: NumeralTooLarge\n".as_slice();
+    assert!(rt; refuses_script(alloc, past.bytes(), line)?);
+    Ok(())
+}
+
+#[test]
+fn script_faults(rt: HostRuntime) -> Result<(), Fail> {
+    let alloc = rt.alloc();
+    let endless =
+        b"(set-logic HORN)(declare-datatypes ((T 0)) (((mk (f T)))))(check-sat)".as_slice();
+    assert!(rt; refuses_script(alloc, endless, b"script refused at 16: NotWellFounded T\n")?);
+    let index = b"(set-logic HORN)(declare-fun p ((Array Bool Int)) Bool)(check-sat)".as_slice();
+    assert!(rt; refuses_script(alloc, index, b"script refused at 32: ArrayIndex\n")?);
+    let unclosed = b"(set-logic HORN)(declare-fun |ab".as_slice();
+    assert!(rt; refuses_script(alloc, unclosed, b"script refused at 29: OpenQuoted\n")?);
+    Ok(())
+}
+
+#[test]
+fn names_of_faults(rt: HostRuntime) -> Result<(), Fail> {
+    let alloc = rt.alloc();
+    let quoted = b"(set-logic HORN)(assert |a b|)(check-sat)".as_slice();
+    assert!(rt; refuses_script(alloc, quoted, b"script refused at 24: UnknownName |a b|\n")?);
+    let empty = b"(set-logic HORN)(assert ||)(check-sat)".as_slice();
+    assert!(rt; refuses_script(alloc, empty, b"script refused at 24: UnknownName ||\n")?);
+    let other = b"(set-logic QF_LIA)(check-sat)".as_slice();
+    assert!(rt; refuses_script(alloc, other, b"script refused at 0: OtherLogic QF_LIA\n")?);
+    Ok(())
+}
+
+#[test]
+fn depth_of_script(rt: HostRuntime) -> Result<(), Fail> {
+    let alloc = rt.alloc();
+    let deeper = repeated(alloc, b'(', 1001)?;
+    assert!(rt; refuses_script(alloc, deeper.bytes(), b"script refused at 1000: TooDeep\n")?);
+    let mut deepest = repeated(alloc, b'(', 1000)?;
+    assert!(rt;
+        refuses_script(
+            alloc,
+            deepest.bytes(),
+            b"script refused at 999: OpenParen\n"
+        )?
+    );
+    let closing = repeated(alloc, b')', 1000)?;
+    deepest.extend(closing.bytes())?;
+    assert!(rt; refuses_script(alloc, deepest.bytes(), b"script refused at 0: BadCommand\n")?);
     Ok(())
 }
 
@@ -221,6 +345,23 @@ fn run_lift(alloc: Global, files: &mut MemFiles, say: &mut MemSink) -> Result<St
 }
 
 // Whether `lift` makes this text of the inputs, and says this line.
+fn lifts_of(
+    alloc: Global,
+    script: &[u8],
+    trace: &[u8],
+    answer: &[u8],
+    out: &[u8],
+    line: &[u8],
+) -> Result<bool, NoMemory> {
+    let mut files = lift_files(alloc, script, trace, answer)?;
+    let mut say = MemSink::new(alloc, 1_000)?;
+    let status = run_lift(alloc, &mut files, &mut say)?;
+    let same = files.held("script") == Some(script) && files.held("trace") == Some(trace);
+    let held = files.held("out") == Some(out);
+    Ok(status.code() == 0 && same && held && say.taken() == line)
+}
+
+// Whether `lift` makes this text of the example's script and these inputs, and says this line.
 fn lifts(
     alloc: Global,
     trace: &[u8],
@@ -228,12 +369,23 @@ fn lifts(
     out: &[u8],
     line: &[u8],
 ) -> Result<bool, NoMemory> {
-    let mut files = lift_files(alloc, SCRIPT, trace, answer)?;
-    let mut say = MemSink::new(alloc, 1_000)?;
-    let status = run_lift(alloc, &mut files, &mut say)?;
-    let same = files.held("script") == Some(SCRIPT) && files.held("trace") == Some(trace);
-    let held = files.held("out") == Some(out);
-    Ok(status.code() == 0 && same && held && say.taken() == line)
+    lifts_of(alloc, SCRIPT, trace, answer, out, line)
+}
+
+#[test]
+fn parallel_let_model(rt: HostRuntime) -> Result<(), Fail> {
+    let alloc = rt.alloc();
+    let answer =
+        b"sat (model (define-fun p ((x Int)) Bool (exists ((x Int)) (< x 0))))\n".as_slice();
+    let out = b"sat\n\
+(\n\
+(define-fun p ((x0 Int)) Bool (exists ((x1 Int)) (< x1 0)))\n\
+)\n\
+"
+        .as_slice();
+    let line = b"lifted: sat, definitions 1\n".as_slice();
+    assert!(rt; lifts_of(alloc, PARALLEL, PARALLEL_TRACE, answer, out, line)?);
+    Ok(())
 }
 
 #[test]
@@ -367,39 +519,64 @@ fn foreign_steps(rt: HostRuntime) -> Result<(), Fail> {
 #[test]
 fn unread_texts(rt: HostRuntime) -> Result<(), Fail> {
     let alloc = rt.alloc();
-    let script = b"script refused at 0: NotYet\n".as_slice();
-    assert!(rt; refuses(alloc, NOT_YET, b"", b"", 2, script)?);
-    let trace = b"trace refused at 0: NotYet\n".as_slice();
-    assert!(rt; refuses(alloc, SCRIPT, b"", ANSWER, 3, trace)?);
-    let cut = exchanged(alloc, TRACE, b"\")\n", b"\n")?;
-    assert!(rt; refuses_trace(alloc, SCRIPT, &cut, 3, trace)?);
+    assert!(rt; refuses(alloc, b"", b"", b"", 2, b"script refused at 0: NoLogic\n")?);
+    assert!(rt;
+        refuses(
+            alloc,
+            SCRIPT,
+            b"",
+            ANSWER,
+            3,
+            b"trace refused at 0: BadForm\n"
+        )?
+    );
+    let open = exchanged(alloc, TRACE, b"\")\n", b"\n")?;
+    assert!(rt; refuses_trace(alloc, SCRIPT, &open, 3, b"trace refused at 14: OpenParen\n")?);
     let other_kind = exchanged(alloc, TRACE, b"unneeded", b"unwanted")?;
-    assert!(rt; refuses_trace(alloc, SCRIPT, &other_kind, 3, trace)?);
+    let line = b"trace refused at 109: BadForm\n".as_slice();
+    assert!(rt; refuses_trace(alloc, SCRIPT, &other_kind, 3, line)?);
     Ok(())
 }
 
-// Whether this answer is refused beside the example's script and trace.
-fn refuses_answer(alloc: Global, answer: &[u8]) -> Result<bool, NoMemory> {
-    let line = b"answer refused at 0: NotYet\n".as_slice();
+// Whether this answer is refused with this line beside the example's script and trace.
+fn refuses_answer(alloc: Global, answer: &[u8], line: &[u8]) -> Result<bool, NoMemory> {
     refuses(alloc, SCRIPT, TRACE, answer, 5, line)
 }
 
 #[test]
-fn refused_answers(rt: HostRuntime) -> Result<(), Fail> {
+fn forms_of_answers(rt: HostRuntime) -> Result<(), Fail> {
     let alloc = rt.alloc();
-    assert!(rt; refuses_answer(alloc, b"")?);
-    assert!(rt; refuses_answer(alloc, b"sat ()")?);
-    assert!(rt; refuses_answer(alloc, b"sat ((define-fun inv ((a Int)) Bool (<= a")?);
-    assert!(rt; refuses_answer(alloc, b"sat ((define-fun inv ((a Bool)) Bool a))")?);
+    assert!(rt; refuses_answer(alloc, b"", b"answer refused at 0: NotAnswer\n")?);
+    assert!(rt; refuses_answer(alloc, b" unknown", b"answer refused at 1: NotAnswer\n")?);
+    assert!(rt; refuses_answer(alloc, b"sat", b"answer refused at 3: BadForm\n")?);
+    assert!(rt; refuses_answer(alloc, b"sat ((a)", b"answer refused at 4: OpenParen\n")?);
+    Ok(())
+}
+
+#[test]
+fn refused_definitions(rt: HostRuntime) -> Result<(), Fail> {
+    let alloc = rt.alloc();
+    assert!(rt; refuses_answer(alloc, b"sat ()", b"answer refused at 6: Missing inv\n")?);
+    let over_bool = b"sat ((define-fun inv ((a Bool)) Bool a))".as_slice();
+    assert!(rt; refuses_answer(alloc, over_bool, b"answer refused at 5: WrongParams inv\n")?);
     let twice = exchanged(
         alloc,
         ANSWER,
         b"))\n",
         b") (define-fun inv ((a Int)) Bool true))",
     )?;
-    assert!(rt; refuses_answer(alloc, twice.bytes())?);
-    let other = exchanged(alloc, ANSWER, b"inv", b"log")?;
-    assert!(rt; refuses_answer(alloc, other.bytes())?);
+    assert!(rt; refuses_answer(alloc, twice.bytes(), b"answer refused at 47: Twice inv\n")?);
+    Ok(())
+}
+
+// Refutations aren't read yet.
+#[test]
+fn refutation_answer(rt: HostRuntime) -> Result<(), Fail> {
+    let alloc = rt.alloc();
+    let refutation = b"; no model\nunsat (step 0 () ())".as_slice();
+    assert!(rt; refuses_answer(alloc, refutation, b"answer refused at 11: NotYet\n")?);
+    let open = b"unsat (step 0 () ()".as_slice();
+    assert!(rt; refuses_answer(alloc, open, b"answer refused at 6: OpenParen\n")?);
     Ok(())
 }
 

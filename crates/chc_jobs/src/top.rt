@@ -2,6 +2,7 @@
 
 mod command;
 mod files;
+mod laws;
 mod lifting;
 mod line;
 mod normalising;
@@ -15,6 +16,7 @@ ghost use Rattle.chc_jobs.specs.Commands.{IsNormalise, IsLift, IsNoCommand};
 
 use chc_source::{Files, Sink};
 use command::{lift_names, normalise_names};
+pub use laws::liftable_is_lifted;
 use lifting::run_lift;
 use line::put_line;
 use normalising::run_normalise;
@@ -49,9 +51,9 @@ fn answer<F: Files>(alloc: Global, words: &[Word], files: &mut F) -> Status
 /// Runs the command that the words are, over these files, and puts the one line that tells how it ended
 /// to `say`. The words come without the program's name.
 ///
-/// `normalise SCRIPT OUT TRACE` reads the script of the file SCRIPT, removes the predicates that are
-/// never reached and those that are never needed, with their clauses, and writes the smaller script to
-/// the file OUT and the trace of the steps to the file TRACE. OUT differs from both other names, and
+/// `normalise SCRIPT OUT TRACE` reads the script of the file SCRIPT, takes steps that keep its answer until no
+/// kind of step is left to take, and writes the script that they lead to to the file OUT and the trace of the steps
+/// to the file TRACE. OUT differs from both other names, and
 /// TRACE from SCRIPT. Files are written only once everything is computed, OUT before TRACE.
 ///
 /// `lift SCRIPT TRACE ANSWER OUT` reads the script, a trace and an answer in this order, replays the trace
@@ -72,6 +74,7 @@ pub fn run<F: Files, K: Sink>(alloc: Global, words: &[Word], files: &mut F, say:
     ensures lift_touches { (script trace answer out : List ℕ) → IsLift words.now script trace answer out → Touches (lift_files script trace answer out) (F.outside files.old) (F.outside files.new) }
     ensures line { HasPut (line result) (K.output say.old) (K.output say.new) ⊎ HasFailed (line result) (K.output say.old) (K.output say.new) }
 {
+    liftable_is_lifted();
     let status = answer(alloc, words, files);
     let _ = put_line(say, &status);
     status

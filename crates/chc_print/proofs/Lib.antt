@@ -3,5 +3,5 @@ pub mod Marks
 pub mod Room
 pub mod ValueTexts
 pub mod Groups
-mod HelperLaws
-mod OneText
+pub mod HelperLaws
+pub mod OneText

@@ -8,7 +8,7 @@ use Rattle.chc_print.specs.Texts.{term_text}
 use Rattle.chc_print.specs.Script.{lines_of_script, script_names, names_over, IsScriptText, IsTermText}
 use Rattle.chc_print.proofs.HelperLaws.{one_naming}
 
-one_prefix : (used : List (List ℕ)) (a b : List ℕ) → IsVariablePrefix used a → IsVariablePrefix used b → a ≡ b
+pub one_prefix : (used : List (List ℕ)) (a b : List ℕ) → IsVariablePrefix used a → IsVariablePrefix used b → a ≡ b
 one_prefix used a b p q = p.form ∙ ap marked same ∙ sym q.form
   where
     not_less : (m n : ℕ) → is_taken used (marked m) ≡ false → ((k : ℕ) → k < n → is_taken used (marked k) ≡ true) → m < n → ⊥

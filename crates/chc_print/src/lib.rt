@@ -13,7 +13,7 @@ mod value;
 
 pub use helpers::{helper_names, predicate_names};
 pub use naming::Naming;
-pub use prefix::variable_prefix;
+pub use prefix::{used_names, variable_prefix};
 pub use script::{script_text, term_text};
 pub use text::{write_binders, write_sort, write_term};
 pub use value::value_text;

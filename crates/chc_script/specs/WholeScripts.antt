@@ -92,13 +92,18 @@ pub record Says (bytes : List ℕ) (reading : Reading ScriptView) : Type 0 where
   pub spelled : Spells bytes trees
   pub stands : script_of trees (length bytes) ≡ reading
 
+-- the bytes stand for no script
+abbrev pub SaysNoScript : List ℕ → Type 0
+SaysNoScript bytes = (X : ScriptView) → Says bytes (Ok X) → ⊥
+
 -- the first fault of a text: in its tokens and groups, or in its commands
 abbrev pub IsScriptFault : List ℕ → TextFault → Type 0
 IsScriptFault bytes fault = (SpellsNone bytes × IsFirstFault bytes fault) ⊎ Says bytes (Err fault)
 
--- what a reading of bytes answers: the script that they stand for, which is the only one, or their first fault; it may
--- always be refused memory
+-- what a reading of bytes answers: the script that they stand for, which is the only one; or, where they stand for none, their
+-- first fault, which is the only one; it may always be refused memory
 abbrev pub IsScriptReading : List ℕ → Result ScriptView TextErr → Type 0
 IsScriptReading bytes (Ok X) = Says bytes (Ok X) × ((Y : ScriptView) → Says bytes (Ok Y) → X ≡ Y)
-IsScriptReading bytes (Err (text_err.At fault)) = IsScriptFault bytes fault × ((other : TextFault) → IsScriptFault bytes other → fault ≡ other)
+IsScriptReading bytes (Err (text_err.At fault)) =
+    SaysNoScript bytes × IsScriptFault bytes fault × ((other : TextFault) → IsScriptFault bytes other → fault ≡ other)
 IsScriptReading bytes (Err text_err.NoMemory) = ⊤

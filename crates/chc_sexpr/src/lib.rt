@@ -13,7 +13,7 @@ mod write;
 
 pub use fault::{Fault, TextErr, TextFault};
 pub use shape::{form_of, group_of, is_symbol, is_word, pair_of, symbol_of, word_of};
-pub use symbol::write_symbol;
+pub use symbol::{is_bare, write_symbol};
 pub use text::{first_fault_is_one, read_trees};
 pub use token::{is_reserved, is_simple_symbol};
 pub use tree::{Tree, Trees};

@@ -85,8 +85,8 @@ fn is_command_name(name: &[u8]) -> bool
         || is_setting_command(name)
 }
 
-/// Whether a name is written without bars.
-fn is_bare(name: &[u8]) -> bool
+/// Whether a name is written without bars: it is a simple symbol, and neither a word of the language nor the name of a command.
+pub fn is_bare(name: &[u8]) -> bool
     ensures { result ≡ is_bare name.now }
 {
     is_simple_symbol(name) && !is_reserved(name) && !is_command_name(name)

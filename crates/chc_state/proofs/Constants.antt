@@ -18,7 +18,7 @@ use Rattle.chc_state.specs.declared.defs.Def.{Def}
 use Rattle.chc_state.specs.declared.defs.Defs.{Defs}
 use Rattle.chc_state.specs.States.{StateView, is_live}
 use Rattle.chc_state.specs.Sorts.{positions, positions_fit}
-use Rattle.chc_state.specs.Steps.{PredSet, set_of, is_ascending, retired}
+use Rattle.chc_state.specs.PredSets.{PredSet, set_of, is_ascending, retired}
 use Rattle.chc_state.specs.Definitions.{DefMeans, Says, Defines, IsDefinition, context_before}
 use Rattle.chc_state.specs.Back.{or_none, constant, with_constant, with_constants}
 use Rattle.chc_state.proofs.Members.{In-at, all-at}

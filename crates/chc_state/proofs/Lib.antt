@@ -11,3 +11,4 @@ pub mod Places
 pub mod Retired
 pub mod Transfers
 pub mod Valued
+pub mod Turning

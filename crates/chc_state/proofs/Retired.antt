@@ -4,7 +4,7 @@ use Rattle.std.specs.Prelude.{slice_get}
 use Rattle.std.proofs.lemmas.Bool.{false≢true}
 use Rattle.chc_state.specs.declared.clause.PredDecl.{PredDecl}
 use Rattle.chc_state.specs.States.{is_live}
-use Rattle.chc_state.specs.Steps.{PredSet, retired}
+use Rattle.chc_state.specs.PredSets.{PredSet, retired}
 use Rattle.chc_state.proofs.Places.{same_element}
 
 pub length-retired : (gone : PredSet) (n : ℕ) (ds : List PredDecl) → length (retired gone n ds) ≡ length ds

@@ -117,3 +117,19 @@ module _ (sig : Signature) (w : List WorldEntry) where
       let fails = moved.1 (Fails-within cs (Derives sig w cs d.0) (T (Derived new)) within d.1) in
       let found = fires_at_height new fails.clause fails.env fails.fires in
       (found.0, record { clause = fails.clause; env = fails.env; stands = fails.stands; query = fails.query; fires = found.1 })
+
+  -- clauses that stand among others derive no more
+  pub fewer : (cs new : List Clause) → ((c : Clause) → In c new → In c cs) → Transfer new cs (λ J. J)
+  fewer cs new among J closed = (
+    λ p us n. closed p us (record {
+      clause = n.clause;
+      head = n.head;
+      env = n.env;
+      stands = among n.clause n.stands;
+      concludes = n.concludes;
+      on = n.on;
+      gives = n.gives;
+      fires = n.fires;
+    }),
+    λ f. record { clause = f.clause; env = f.env; stands = among f.clause f.stands; query = f.query; fires = f.fires },
+  )

@@ -5,6 +5,7 @@ use Rattle.std.specs.List.{AllByRecursion, list_all}
 use Rattle.std.proofs.lemmas.Bool.{and_parts, and_from, false≢true}
 use Rattle.chc_sorts.specs.declared.sort.Sort.{Sort}
 use Rattle.chc_sorts.specs.Signature.{Signature}
+use Rattle.chc_sorts.specs.WellFounded.{IsWellFounded}
 use Rattle.chc_values.specs.declared.value.Value.{Value}
 use Rattle.chc_values.specs.declared.world.WorldEntry.{WorldEntry}
 use Rattle.chc_values.specs.Values.{AreOf}
@@ -14,7 +15,7 @@ use Rattle.chc_terms.specs.Has.{TermHas, EachHas, silent}
 use Rattle.chc_terms.specs.Sorted.{sorts_of, is_plain, is_unquantified}
 use Rattle.chc_terms.proofs.Induction.{term_ind}
 use Rattle.chc_terms.proofs.SortLaws.{is_plain-App, is_plain-Pred, is_plain-Quant, is_plain-Call, is_unquantified-Var, is_unquantified-Num, is_unquantified-Lit, is_unquantified-App}
-use Rattle.chc_terms.proofs.ForOthers.{nothing_meant, nothing_to_answer, one_list, some_list}
+use Rattle.chc_terms.proofs.ForOthers.{nothing_meant, nothing_to_answer, one_list, some_list_under_any}
 use Rattle.chc_state.specs.declared.clause.Atom.{Atom}
 use Rattle.chc_state.specs.declared.clause.Clause.{Clause}
 use Rattle.chc_state.specs.States.{head_all}
@@ -65,14 +66,14 @@ SortedArgs-head sig preds c head h e =
     let rest = and_parts (list_all (is_condition sig c.vars) c.conj && list_all (is_sorted_atom sig preds c.vars) c.body) (head_all (is_sorted_atom sig preds c.vars) c.head) h in
     SortedArgs-atom sig preds c.vars head (ap (head_all (is_sorted_atom sig preds c.vars)) (sym e) ∙ rest.1)
 
-module _ (sig : Signature) (w : List WorldEntry) (world : IsWorld sig w) (none : sig.datatypes ≡ []) (vars : List Sort) (env : List Value) (are : AreOf sig env vars)
+module _ (sig : Signature) (w : List WorldEntry) (world : IsWorld sig w) (vars : List Sort) (env : List Value) (are : AreOf sig env vars)
     (ts : List Term) (args : SortedArgs sig vars ts) where
   -- the arguments have at most one list of values
   pub args_once : (us vs : List Value) → EachHas (TermHas sig w) ts env us → EachHas (TermHas sig w) ts env vs → us ≡ vs
   args_once = one_list (clause_context sig) w silent silent world (nothing_meant sig silent silent) ts vars args.sorts args.sorted env are
 
-  -- and have one
-  pub args_valued : (us : List Value) × EachHas (TermHas sig w) ts env us
-  args_valued =
-      some_list (clause_context sig) w silent silent world (nothing_meant sig silent silent) ts vars args.sorts args.sorted env are none
+  -- and have one, where the signature is well founded
+  pub args_valued : IsWellFounded sig → (us : List Value) × EachHas (TermHas sig w) ts env us
+  args_valued founded =
+      some_list_under_any (clause_context sig) w silent silent world (nothing_meant sig silent silent) ts vars args.sorts args.sorted env are founded
       (nothing_to_answer sig silent silent) (plain_terms_unquantified ts args.plain)

@@ -1,4 +1,4 @@
--- The way back of definitions over the steps.
+-- The way back of definitions over a step.
 use Rattle.std.specs.Prelude.{◌≡◌, ℕ, Bool, true, false, IsTrue, List, [], ◌∷◌, ◌++◌, length, Option, Some, None, slice_get, set}
 use Rattle.chc_sorts.specs.declared.sort.Sort.{Sort}
 use Rattle.chc_sorts.specs.declared.sort.Sort.TheVariants as sort
@@ -7,11 +7,7 @@ use Rattle.chc_values.specs.Worlds.{IsWorld}
 use Rattle.chc_terms.specs.declared.term.Term.TheVariants as term
 use Rattle.chc_state.specs.declared.defs.Def.{Def}
 use Rattle.chc_state.specs.declared.defs.Defs.{Defs}
-use Rattle.chc_state.specs.declared.step.Step.{Step}
-use Rattle.chc_state.specs.declared.step.Step.TheVariants as step
 use Rattle.chc_state.specs.States.{StateView}
-use Rattle.chc_state.specs.Steps.{IsLegal, after}
-use Rattle.chc_state.specs.Sorts.{positions, are_sorted}
 use Rattle.chc_state.specs.Definitions.{Defines, Holds}
 
 -- the sorts where there are any, and none otherwise
@@ -32,17 +28,6 @@ abbrev pub with_constants : List (List Sort) → Bool → List ℕ → Defs → 
 with_constants sorts b [] d = d
 with_constants sorts b (p ∷ ps) d = with_constants sorts b ps (with_constant sorts b p d)
 
--- the definitions before the step, where the predicates' positions have these sorts: an unreached
--- predicate is false, and an unneeded one is true
-abbrev pub back : List (List Sort) → Step → Defs → Defs
-back sorts (step.Unreached ps) d = with_constants sorts false ps d
-back sorts (step.Unneeded ps) d = with_constants sorts true ps d
-
--- the definitions before all of the steps, the last step's way back first
-abbrev pub back_over : List (List Sort) → List Step → Defs → Defs
-back_over sorts [] d = d
-back_over sorts (x ∷ xs) d = back sorts x (back_over sorts xs d)
-
 -- definitions that make the clauses true in every world in which others make other clauses true
 abbrev pub KeepsHolding : StateView → Defs → StateView → Defs → Type 0
 KeepsHolding z d s e = (w : List WorldEntry) → IsWorld s.sig w → Holds w d z → Holds w e s
@@ -52,9 +37,3 @@ KeepsHolding z d s e = (w : List WorldEntry) → IsWorld s.sig w → Holds w d z
 pub record LeadsBack (s : StateView) (d e : Defs) (z : StateView) : Type 0 where
   pub defines : Defines e s
   pub keeps : KeepsHolding z d s e
-
--- back over a legal step from a state without datatypes whose clauses are well sorted
-abbrev pub StepLeadsBack : List (List Sort) → Step → Defs → Defs → Type 0
-StepLeadsBack sorts x d e =
-    (s : StateView) → s.sig.datatypes ≡ [] → IsTrue (are_sorted s.sig s.preds s.clauses) → sorts ≡ positions s.preds
-    → IsLegal s x → Defines d (after s x) → LeadsBack s d e (after s x)

@@ -1,10 +1,14 @@
 pub mod States
 pub mod Limits
 pub mod Meaning
-pub mod Steps
+pub mod PredSets
 pub mod Sorts
 pub mod WellFormed
 pub mod Making
 pub mod Names
 pub mod Definitions
 pub mod Back
+pub mod Refuting
+pub mod Used
+pub mod Measure
+pub mod Passes

@@ -6,6 +6,7 @@ use Rattle.chc_values.specs.declared.value.Value.{Value}
 use Rattle.chc_values.specs.declared.value.Value.TheVariants as value
 use Rattle.chc_values.specs.declared.world.WorldEntry.{WorldEntry}
 use Rattle.chc_values.specs.Values.{AreOf}
+use Rattle.chc_values.specs.Worlds.{IsWorld}
 use Rattle.chc_terms.specs.Has.{TermHas, EachHas, AllHave}
 use Rattle.chc_state.specs.declared.clause.Atom.{Atom}
 use Rattle.chc_state.specs.declared.clause.Clause.{Clause}
@@ -68,4 +69,4 @@ DerivesFalse s w = FalseDerived s.sig w s.clauses
 
 -- in every world, false is derived from the one state's clauses exactly where it is from the other's
 abbrev pub SameAnswer : StateView → StateView → Type 0
-SameAnswer s z = (w : List WorldEntry) → DerivesFalse s w ↔ DerivesFalse z w
+SameAnswer s z = (w : List WorldEntry) → IsWorld s.sig w → DerivesFalse s w ↔ DerivesFalse z w

@@ -4,6 +4,7 @@ ghost use Rattle.std.specs.Prelude.{◌≡◌, ◌<◌, ◌≤◌, ◌^◌, None
 ghost use Rattle.chc_state.specs.States.{StateView, uses_live};
 ghost use Rattle.chc_state.specs.Limits.{first_passed};
 ghost use Rattle.chc_state.specs.Making.{Makes};
+ghost use Rattle.chc_state.specs.Passes.{IsState};
 ghost use Rattle.chc_state.specs.Sorts.{are_sorted, positions_fit};
 ghost use Rattle.chc_state.specs.WellFormed.{are_well_formed};
 
@@ -97,6 +98,14 @@ impl State {
             clauses,
         } = self;
         (sig, preds, clauses)
+    }
+
+    /// What the type keeps, as one fact. It does nothing.
+    pub fn kept(&self)
+        ensures { IsState self.now }
+    {
+        let (sig, _preds, _clauses) = (self.sig(), self.preds(), self.clauses());
+        sig.well_founded();
     }
 
     /// The signature.

@@ -75,7 +75,7 @@ fn is_one_too_heavy(clauses: &List<Clause>) -> bool
 }
 
 /// Whether exactly one of the clauses is a query.
-fn is_one_query(clauses: &List<Clause>) -> bool
+pub fn is_one_query(clauses: &List<Clause>) -> bool
     ensures { result ≡ has_one_query clauses.now }
 {
     clauses
@@ -87,7 +87,7 @@ fn is_one_query(clauses: &List<Clause>) -> bool
 }
 
 /// How many predicates are live.
-fn live_preds(preds: &List<PredDecl>) -> u64
+pub fn live_preds(preds: &List<PredDecl>) -> u64
     ensures { result ≡ live_count preds.now }
 {
     preds.as_slice().iter().filter(|decl| decl.live).count() as u64

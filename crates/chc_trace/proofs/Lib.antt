@@ -1,2 +1,6 @@
-pub mod Laws
-pub mod Printed
+mod FirstUnfit
+mod KindLaws
+mod Printed
+mod Shapes
+mod Stages
+pub mod Texts

@@ -1,236 +1,149 @@
 -- The lines of a trace say it.
-use Rattle.std.proofs.Common.{◌≡◌, ◌<◌, ◌^◌, ◌+◌, ℕ, pos, not, true, false, List, [], ◌∷◌, ◌++◌, length, map, codes, sym, ap, refl, subst, ◌∙◌, arith, append_assoc, append-nil}
+use Rattle.std.proofs.Common.{◌≡◌, ◌∙◌, ◌<◌, ◌≤◌, ◌^◌, ◌+◌, ℕ, pos, true, false, List, [], ◌∷◌, ◌++◌, length, map, codes, sym, ap, refl, subst, arith, append_assoc}
 use Rattle.std.specs.Prelude.{IsTrue, decimal}
-use Rattle.std.specs.List.{concat, All}
+use Rattle.std.specs.List.{concat, list_all, All, AllByRecursion}
 use Rattle.std.proofs.lemmas.List.Elements.{All-head, All-tail}
-use Rattle.std.proofs.lemmas.Fmt.{decimal_digit}
 use Rattle.hex.specs.Hex.{encode_lower}
-use Rattle.chc_sexpr.specs.Tokens.{is_simple_symbol, is_reserved}
-use Rattle.chc_sexpr.specs.Spelling.{string_of}
+use Rattle.chc_sexpr.specs.Spelling.{is_gap, is_quotable, string_of}
+use Rattle.chc_sexpr.specs.Writing.{spaced, joined, text_step, tree_text, unplaced_step, unplaced}
 use Rattle.chc_sexpr.specs.declared.tree.Tree.{Tree}
-use Rattle.chc_sexpr.specs.declared.tree.Tree.TheVariants.{Symbol, Numeral, Text, Group}
-use Rattle.chc_sexpr.proofs.Written.{is_parted, tree_of_kind, TreeAt, TreesAt, symbol_at, numeral_at, string_at, no_more_at, next_at, group_at, spells_from}
+use Rattle.chc_sexpr.specs.declared.tree.Tree.TheVariants.{Symbol, Text, Group}
+use Rattle.chc_sexpr.proofs.Folds.{fold-Symbol, fold-Numeral, fold-Text, fold-Group}
+use Rattle.chc_sexpr.proofs.Written.{is_parted, Writes, TreesAt, tree_of_kind, name_writes, numeral_at, string_at, no_more_at, next_at, group_at, spells_from}
 use Rattle.chc_state.specs.declared.step.Step.{Step}
 use Rattle.chc_state.specs.declared.step.Step.TheVariants as step
 use Rattle.chc_trace.specs.declared.trace.Trace.{Trace}
-use Rattle.chc_trace.specs.Traces.{numbers_text, step_line, step_text, trace_lines, AreNumbers, IsForm, IsStepOf, IsStepTree, AreTarget, AreSteps, IsMark, IsDigest, IsSource, AreTraceOf, SaysTrace, AreSmall, HasSmallNumbers}
+use Rattle.chc_trace.specs.Kinds.{word_of, parts_of, HasSmallNumbers}
+use Rattle.chc_trace.specs.Numbers.{number, AreSmall}
+use Rattle.chc_trace.specs.Traces.{form, mark_tree, source_tree, step_tree, target_tree, trace_trees, line, trace_lines, IsDigest, SaysTrace}
+use Rattle.chc_trace.proofs.Texts.{number_text, string_text, word_fits}
 
--- how deep the trees inside a form may be
+-- ---- one tree
+
+-- the tree is that one but for its places
+abbrev IsLike : Tree → Tree → Type 0
+IsLike tree t = unplaced t ≡ tree
+
+-- the tree's text is spelled by a tree that is like it, and no deeper than so
+abbrev IsWritten : ℕ → Tree → Type 0
+IsWritten deep tree = Writes (IsLike tree) deep (tree_text tree)
+
+deeper : (less more : ℕ) → less ≤ more → (tree : Tree) → IsWritten less tree → IsWritten more tree
+deeper less more le tree w place after parted = tree_of_kind (IsLike tree) (IsLike tree) less more le (λ t is. is) place (tree_text tree) after (w place after parted)
+
+-- what is written as a text is written as its tree's text
+by_text : (deep : ℕ) (tree : Tree) (text : List ℕ) → tree_text tree ≡ text → Writes (IsLike tree) deep text → IsWritten deep tree
+by_text deep tree text e w = subst (Writes (IsLike tree) deep) (sym e) w
+
+number_written : (n : ℕ) → n < 2 ^ 32 → IsWritten 0 (number n)
+number_written n small =
+    by_text 0 (number n) (decimal n) (number_text n)
+    (λ place after parted. numeral_at (IsLike (number n)) 0 place n after parted (omega arith) (fold-Numeral Tree unplaced_step place (pos n)))
+
+string_written : (bytes : List ℕ) → IsWritten 0 (Text 0 bytes)
+string_written bytes =
+    by_text 0 (Text 0 bytes) (string_of bytes) (string_text bytes)
+    (λ place after parted. string_at (IsLike (Text 0 bytes)) 0 place bytes after parted (fold-Text Tree unplaced_step place bytes))
+
+name_written : (name : List ℕ) → IsTrue (list_all is_quotable name) → IsWritten 0 (Symbol 0 name)
+name_written name quotable =
+    subst (Writes (IsLike (Symbol 0 name)) 0) (sym (fold-Symbol (List ℕ) text_step 0 name))
+    (name_writes (IsLike (Symbol 0 name)) 0 name quotable (λ place. fold-Symbol Tree unplaced_step place name))
+
+-- ---- forms
+
+-- the trees are those but for their places
+abbrev AreLike : List Tree → List Tree → Type 0
+AreLike trees ts = map unplaced ts ≡ trees
+
+like_more : (t u : Tree) (ts us : List Tree) → IsLike t u → AreLike ts us → AreLike (t ∷ ts) (u ∷ us)
+like_more t u ts us is are = λ i. is i ∷ are i
+
+parted_spaced : (texts : List (List ℕ)) → IsTrue (is_parted (spaced texts))
+parted_spaced [] = refl
+parted_spaced (t ∷ ts) = refl
+
+-- the first of some trees behind a gap, and the others behind it
+first_at : (deep : ℕ) (t : Tree) (ts : List Tree) (gap : List ℕ) → IsTrue (is_gap gap) → (place : ℕ) → IsWritten deep t
+    → ((behind : ℕ) → TreesAt (AreLike ts) deep false behind (spaced (map tree_text ts))) → TreesAt (AreLike (t ∷ ts)) deep false place (gap ++ tree_text t ++ spaced (map tree_text ts))
+first_at deep t ts gap blank place first others =
+    let after : List ℕ = spaced (map tree_text ts) in
+    next_at (IsLike t) (AreLike ts) (AreLike (t ∷ ts)) deep false place gap (tree_text t) after blank
+    (first (place + length gap) after (parted_spaced (map tree_text ts))) (others (place + length gap + length (tree_text t)))
+    (λ u us is are. like_more t u ts us is are)
+
+spaced_at : (deep : ℕ) (ts : List Tree) → AllByRecursion (IsWritten deep) ts → (place : ℕ) → TreesAt (AreLike ts) deep false place (spaced (map tree_text ts))
+spaced_at deep [] written place = no_more_at (AreLike []) deep false place [] refl refl
+spaced_at deep (t ∷ ts) written place = first_at deep t ts (codes " ") refl place written.0 (spaced_at deep ts written.1)
+
+form_written : (deep : ℕ) (name : List ℕ) → IsTrue (list_all is_quotable name) → (ts : List Tree) → AllByRecursion (IsWritten deep) ts → IsWritten (deep + 1) (form name ts)
+form_written deep name quotable ts written =
+    by_text (deep + 1) (form name ts) (40 ∷ joined (map tree_text (Symbol 0 name ∷ ts)) ++ 41 ∷ []) (fold-Group (List ℕ) text_step 0 (Symbol 0 name ∷ ts))
+    (λ place after parted.
+    group_at (AreLike (Symbol 0 name ∷ ts)) (IsLike (form name ts)) deep place (joined (map tree_text (Symbol 0 name ∷ ts))) after
+    (first_at deep (Symbol 0 name) ts [] refl (place + 1) (deeper 0 deep (omega arith) (Symbol 0 name) (name_written name quotable)) (spaced_at deep ts written))
+    (λ us are. fold-Group Tree unplaced_step place us ∙ ap (Group 0) are))
+
+-- ---- the trees of a trace
+
+-- how deep what stands behind the word of a step may be
 abbrev inside : ℕ
-inside = 999
+inside = 998
 
--- a tree is the symbol, the numeral or the string, at some place
-abbrev IsSymbol : List ℕ → Tree → Type 0
-IsSymbol name t = (at : ℕ) × (t ≡ Symbol at name)
+numbers_written : (ns : List ℕ) → AreSmall ns → AllByRecursion (IsWritten inside) (map number ns)
+numbers_written [] small = tt
+numbers_written (n ∷ ns) small =
+    (deeper 0 inside (omega arith) (number n) (number_written n (All-head (λ m. m < 2 ^ 32) n ns small)), numbers_written ns (All-tail (λ m. m < 2 ^ 32) n ns small))
 
-abbrev IsNumeral : ℕ → Tree → Type 0
-IsNumeral n t = (at : ℕ) × (t ≡ Numeral at (pos n))
+parts_written : (x : Step) → HasSmallNumbers x → AllByRecursion (IsWritten inside) (parts_of x)
+parts_written (step.Void k) small = (deeper 0 inside (omega arith) (number k) (number_written k small), tt)
+parts_written (step.Unreached ps) small = numbers_written ps small
+parts_written (step.Unneeded ps) small = numbers_written ps small
 
-abbrev IsString : List ℕ → Tree → Type 0
-IsString bytes t = (at : ℕ) × (t ≡ Text at bytes)
+step_written : (x : Step) → HasSmallNumbers x → IsWritten 1000 (step_tree x)
+step_written x small =
+    deeper (inside + 1) 1000 (omega arith) (step_tree x)
+    (form_written inside (codes "step") refl (Symbol 0 (word_of x) ∷ parts_of x)
+    (deeper 0 inside (omega arith) (Symbol 0 (word_of x)) (name_written (word_of x) (word_fits x).1), parts_written x small))
 
--- the trees are one such tree and no more
-abbrev AreNumeral : ℕ → List Tree → Type 0
-AreNumeral n ts = (at : ℕ) × (ts ≡ Numeral at (pos n) ∷ [])
+-- a form of a name with one part, which is a token
+short_written : (name : List ℕ) → IsTrue (list_all is_quotable name) → (part : Tree) → IsWritten 0 part → IsWritten 1000 (form name (part ∷ []))
+short_written name quotable part w = deeper (0 + 1) 1000 (omega arith) (form name (part ∷ [])) (form_written 0 name quotable (part ∷ []) (w, tt))
 
-abbrev AreString : List ℕ → List Tree → Type 0
-AreString bytes ts = (at : ℕ) × (ts ≡ Text at bytes ∷ [])
+target_written : (text : List ℕ) → IsWritten 1000 (target_tree text)
+target_written text = short_written (codes "target") refl (Text 0 text) (string_written text)
 
--- a form of the name, behind which trees of the kind stand
-abbrev FormTree : List ℕ → (List Tree → Type 0) → Tree → Type 0
-FormTree name kind t = (more : List Tree) × IsForm name more t × kind more
-
--- a form of the name that holds the string and nothing else
-abbrev StringForm : List ℕ → List ℕ → Tree → Type 0
-StringForm name bytes t = (at : ℕ) × IsForm name (Text at bytes ∷ []) t
-
--- the trees of a form of the name, behind whose symbol trees of the kind stand
-abbrev FormTrees : List ℕ → (List Tree → Type 0) → List Tree → Type 0
-FormTrees name kind ts = (place : ℕ) × (more : List Tree) × (ts ≡ Symbol place name ∷ more) × kind more
-
--- a form of the name and the trees behind it is a tree
-form_at : (name : List ℕ) → IsTrue (is_simple_symbol name) → IsTrue (not (is_reserved name)) → (kind : List Tree → Type 0) (place : ℕ) (rest after : List ℕ) → IsTrue (is_parted rest)
-    → ((at : ℕ) → TreesAt kind inside false at rest) → TreeAt (FormTree name kind) (inside + 1) place (40 ∷ (name ++ rest) ++ 41 ∷ []) after
-form_at name simple free kind place rest after parted trees =
-    group_at (FormTrees name kind) (FormTree name kind) inside place (name ++ rest) after
-    (next_at (IsSymbol name) kind (FormTrees name kind) inside false (place + 1) [] name rest refl
-    (symbol_at (IsSymbol name) inside (place + 1 + 0) name rest parted simple free (place + 1 + 0, refl))
-    (trees (place + 1 + 0 + length name))
-    (λ t ts one more. (one.0, ts, ap (λ (u : Tree). u ∷ ts) one.1, more)))
-    (λ ts h. (h.1, (place, h.0, ap (Group place) h.2), h.3))
-
-numbers_parted : (ns : List ℕ) → IsTrue (is_parted (numbers_text ns))
-numbers_parted [] = refl
-numbers_parted (n ∷ ns) = refl
-
--- numbers with a space before each
-numbers_at : (ns : List ℕ) → AreSmall ns → (place : ℕ) → TreesAt (λ ts. AreNumbers ts ns) inside false place (numbers_text ns)
-numbers_at [] small place = no_more_at (λ ts. AreNumbers ts []) inside false place [] refl tt
-numbers_at (n ∷ ns) small place =
-    let first : n < 2 ^ 32 = All-head (λ m. m < 2 ^ 32) n ns small in
-    next_at (IsNumeral n) (λ ts. AreNumbers ts ns) (λ ts. AreNumbers ts (n ∷ ns)) inside false place (32 ∷ []) (decimal n) (numbers_text ns) refl
-    (numeral_at (IsNumeral n) inside (place + 1) n (numbers_text ns) (numbers_parted ns) (omega arith) (place + 1, refl))
-    (numbers_at ns (All-tail (λ m. m < 2 ^ 32) n ns small) (place + 1 + length (decimal n)))
-    (λ t ts one more. (one.0, one.1, first, more))
-
--- ---- steps
-
--- a kind, and numbers behind it
-abbrev KindTrees : List ℕ → List ℕ → List Tree → Type 0
-KindTrees word preds ts = (place : ℕ) × (numbers : List Tree) × (ts ≡ Symbol place word ∷ numbers) × AreNumbers numbers preds
-
-kind_at : (word : List ℕ) → IsTrue (is_simple_symbol word) → IsTrue (not (is_reserved word)) → (preds : List ℕ) → AreSmall preds → (place : ℕ)
-    → TreesAt (KindTrees word preds) inside false place (32 ∷ word ++ numbers_text preds)
-kind_at word simple free preds small place =
-    next_at (IsSymbol word) (λ ts. AreNumbers ts preds) (KindTrees word preds) inside false place (32 ∷ []) word (numbers_text preds) refl
-    (symbol_at (IsSymbol word) inside (place + 1) word (numbers_text preds) (numbers_parted preds) simple free (place + 1, refl))
-    (numbers_at preds small (place + 1 + length word))
-    (λ t ts one more. (one.0, ts, ap (λ (u : Tree). u ∷ ts) one.1, more))
-
--- a step without the end of its line
-abbrev step_group : List ℕ → List ℕ → List ℕ
-step_group word preds = 40 ∷ (codes "step" ++ 32 ∷ word ++ numbers_text preds) ++ 41 ∷ []
-
-step_line_is : (word preds : List ℕ) → step_line word preds ≡ step_group word preds ++ 10 ∷ []
-step_line_is word preds = simp append_assoc
-
-step_of_kind_at : (word : List ℕ) → IsTrue (is_simple_symbol word) → IsTrue (not (is_reserved word)) → (preds : List ℕ) → AreSmall preds → (place : ℕ) (after : List ℕ)
-    → TreeAt (IsStepOf word preds) (inside + 1) place (step_group word preds) after
-step_of_kind_at word simple free preds small place after =
-    tree_of_kind (FormTree (codes "step") (KindTrees word preds)) (IsStepOf word preds) (inside + 1) (inside + 1) (omega arith)
-    (λ t h. (h.2.0, h.2.1, subst (λ (ts : List Tree). IsForm (codes "step") ts t) h.2.2 h.1, h.2.3)) place (step_group word preds) after
-    (form_at (codes "step") refl refl (KindTrees word preds) place (32 ∷ word ++ numbers_text preds) after refl (kind_at word simple free preds small))
-
--- what the line of a step is
-record StepLine (x : Step) : Type 0 where
-  group : List ℕ
-  line : step_text x ≡ group ++ 10 ∷ []
-  written : (place : ℕ) (after : List ℕ) → TreeAt (λ t. IsStepTree t x) (inside + 1) place group after
-
-line_of_step : (x : Step) → HasSmallNumbers x → StepLine x
-line_of_step (step.Unreached preds) small = record {
-  group = step_group (codes "unreached") preds;
-  line = step_line_is (codes "unreached") preds;
-  written = step_of_kind_at (codes "unreached") refl refl preds small;
-}
-line_of_step (step.Unneeded preds) small = record {
-  group = step_group (codes "unneeded") preds;
-  line = step_line_is (codes "unneeded") preds;
-  written = step_of_kind_at (codes "unneeded") refl refl preds small;
-}
-
--- ---- the source and the target
-
--- a string behind a space
-string_alone : (bytes : List ℕ) (place : ℕ) → TreesAt (AreString bytes) inside false place (32 ∷ string_of bytes)
-string_alone bytes place =
-    subst (λ (text : List ℕ). TreesAt (AreString bytes) inside false place (32 ∷ text)) (append-nil (string_of bytes))
-    (next_at (IsString bytes) (λ ts. ts ≡ []) (AreString bytes) inside false place (32 ∷ []) (string_of bytes) [] refl
-    (string_at (IsString bytes) inside (place + 1) bytes [] refl (place + 1, refl))
-    (no_more_at (λ ts. ts ≡ []) inside false (place + 1 + length (string_of bytes)) [] refl refl)
-    (λ t ts one none. (one.0, λ i. one.1 i ∷ none i)))
-
--- a form that holds a string and nothing else
-abbrev string_group : List ℕ → List ℕ → List ℕ
-string_group name bytes = 40 ∷ (name ++ (32 ∷ string_of bytes)) ++ 41 ∷ []
-
-string_form_at : (name : List ℕ) → IsTrue (is_simple_symbol name) → IsTrue (not (is_reserved name)) → (bytes : List ℕ) (place : ℕ) (after : List ℕ)
-    → TreeAt (StringForm name bytes) (inside + 1) place (string_group name bytes) after
-string_form_at name simple free bytes place after =
-    tree_of_kind (FormTree name (AreString bytes)) (StringForm name bytes)
-    (inside + 1) (inside + 1) (omega arith)
-    (λ t h. (h.2.0, subst (λ (ts : List Tree). IsForm name ts t) h.2.1 h.1)) place (string_group name bytes) after
-    (form_at name simple free (AreString bytes) place (32 ∷ string_of bytes) after refl (string_alone bytes))
-
--- such a form at the end of a line
-string_line_is : (name bytes rest : List ℕ) → string_group name bytes ++ (10 ∷ rest) ≡ 40 ∷ (name ++ (32 ∷ (string_of bytes ++ (41 ∷ 10 ∷ rest))))
-string_line_is name bytes rest =
-    ap (λ (text : List ℕ). 40 ∷ text) (append_assoc (name ++ (32 ∷ string_of bytes)) (41 ∷ []) (10 ∷ rest) ∙ append_assoc name (32 ∷ string_of bytes) (41 ∷ 10 ∷ rest))
+steps_written : (xs : List Step) → All HasSmallNumbers xs → (text : List ℕ) → AllByRecursion (IsWritten 1000) (map step_tree xs ++ target_tree text ∷ [])
+steps_written [] small text = (target_written text, tt)
+steps_written (x ∷ xs) small text = (step_written x (All-head HasSmallNumbers x xs small), steps_written xs (All-tail HasSmallNumbers x xs small) text)
 
 -- ---- lines
 
--- the line of the target
-abbrev target_line : List ℕ → List ℕ
-target_line target = string_group (codes "target") target ++ (10 ∷ [])
+line_text : (t : Tree) (rest : List ℕ) → line t ++ rest ≡ tree_text t ++ (10 ∷ rest)
+line_text t rest = append_assoc (tree_text t) (codes "\n") rest
 
--- the lines of steps and the target
-abbrev rest_text : List Step → List ℕ → List ℕ
-rest_text xs target = concat (map step_text xs) ++ target_line target
+-- the first of some trees on lines, behind a gap, and the others behind it
+first_line_at : (gap : List ℕ) → IsTrue (is_gap gap) → (t : Tree) (ts : List Tree) → IsWritten 1000 t → (place : ℕ)
+    → ((behind : ℕ) → TreesAt (AreLike ts) 1000 true behind (10 ∷ concat (map line ts))) → TreesAt (AreLike (t ∷ ts)) 1000 true place (gap ++ concat (map line (t ∷ ts)))
+first_line_at gap blank t ts first place others =
+    let after : List ℕ = 10 ∷ concat (map line ts) in
+    let text : gap ++ tree_text t ++ after ≡ gap ++ concat (map line (t ∷ ts)) = append_assoc gap (tree_text t) after ∙ ap (λ (more : List ℕ). gap ++ more) (sym (line_text t (concat (map line ts)))) in
+    subst (TreesAt (AreLike (t ∷ ts)) 1000 true place) text
+    (next_at (IsLike t) (AreLike ts) (AreLike (t ∷ ts)) 1000 true place gap (tree_text t) after blank
+    (first (place + length gap) after refl) (others (place + length gap + length (tree_text t)))
+    (λ u us is are. like_more t u ts us is are))
 
-rest_text_is : (x : Step) (group : List ℕ) → step_text x ≡ group ++ (10 ∷ []) → (xs : List Step) (target : List ℕ) → rest_text (x ∷ xs) target ≡ group ++ (10 ∷ rest_text xs target)
-rest_text_is x group line xs target =
-    append_assoc (step_text x) (concat (map step_text xs)) (target_line target) ∙ ap (λ (text : List ℕ). text ++ rest_text xs target) line
-    ∙ append_assoc group (10 ∷ []) (rest_text xs target)
-
--- these lines, behind the end of a line
-lines_at : (xs : List Step) → All HasSmallNumbers xs → (target : List ℕ) (place : ℕ) → TreesAt (λ ts. AreSteps ts xs target) (inside + 1) true place (10 ∷ rest_text xs target)
-lines_at [] small target place =
-    next_at (StringForm (codes "target") target) (λ ts. ts ≡ []) (λ ts. AreSteps ts [] target) (inside + 1) true place (10 ∷ [])
-    (string_group (codes "target") target) (10 ∷ []) refl
-    (string_form_at (codes "target") refl refl target (place + 1) (10 ∷ []))
-    (no_more_at (λ ts. ts ≡ []) (inside + 1) true (place + 1 + length (string_group (codes "target") target)) (10 ∷ []) refl refl)
-    (λ t ts one none. subst (λ (us : List Tree). AreTarget (t ∷ us) target) (sym none) one)
-lines_at (x ∷ xs) small target place =
-    let first = line_of_step x (All-head HasSmallNumbers x xs small) in
-    subst (λ (bytes : List ℕ). TreesAt (λ ts. AreSteps ts (x ∷ xs) target) (inside + 1) true place (10 ∷ bytes)) (sym (rest_text_is x first.group first.line xs target))
-    (next_at (λ t. IsStepTree t x) (λ ts. AreSteps ts xs target) (λ ts. AreSteps ts (x ∷ xs) target) (inside + 1) true place (10 ∷ []) first.group (10 ∷ rest_text xs target) refl
-    (first.written (place + 1) (10 ∷ rest_text xs target)) (lines_at xs (All-tail HasSmallNumbers x xs small) target (place + 1 + length first.group))
-    (λ t ts one more. (one, more)))
-
--- ---- the whole
-
--- the trees behind the mark
-abbrev SourceTrees : Trace → List Tree → Type 0
-SourceTrees t [] = ⊥
-SourceTrees t (source ∷ more) = IsSource t.source source × AreSteps more t.steps t.target
-
-source_at : (t : Trace) → IsDigest t.source → All HasSmallNumbers t.steps → (place : ℕ)
-    → TreesAt (SourceTrees t) (inside + 1) true place (10 ∷ (string_group (codes "source") (encode_lower t.source) ++ (10 ∷ rest_text t.steps t.target)))
-source_at t digest small place =
-    let group : List ℕ = string_group (codes "source") (encode_lower t.source) in
-    let rest : List ℕ = 10 ∷ rest_text t.steps t.target in
-    next_at (StringForm (codes "source") (encode_lower t.source)) (λ ts. AreSteps ts t.steps t.target) (SourceTrees t) (inside + 1) true place
-    (10 ∷ []) group rest refl
-    (string_form_at (codes "source") refl refl (encode_lower t.source) (place + 1) rest)
-    (lines_at t.steps small t.target (place + 1 + length group))
-    (λ u ts one more. ((digest, one.0, one.1), more))
-
--- the mark's numeral
-version_alone : (place : ℕ) → TreesAt (AreNumeral 1) inside false place (codes " 1")
-version_alone place =
-    subst (λ (digits : List ℕ). TreesAt (AreNumeral 1) inside false place (32 ∷ digits ++ [])) (decimal_digit 1 (omega arith))
-    (next_at (IsNumeral 1) (λ ts. ts ≡ []) (AreNumeral 1) inside false place (32 ∷ []) (decimal 1) [] refl
-    (numeral_at (IsNumeral 1) inside (place + 1) 1 [] refl (omega arith) (place + 1, refl))
-    (no_more_at (λ ts. ts ≡ []) inside false (place + 1 + length (decimal 1)) [] refl refl)
-    (λ t ts one none. (one.0, λ i. one.1 i ∷ none i)))
-
-mark_at : (place : ℕ) (after : List ℕ) → TreeAt IsMark (inside + 1) place (codes "(chc-trace 1)") after
-mark_at place after =
-    tree_of_kind (FormTree (codes "chc-trace") (AreNumeral 1)) IsMark (inside + 1) (inside + 1) (omega arith)
-    (λ t h. (h.2.0, subst (λ (ts : List Tree). IsForm (codes "chc-trace") ts t) h.2.1 h.1)) place (codes "(chc-trace 1)") after
-    (form_at (codes "chc-trace") refl refl (AreNumeral 1) place (codes " 1") after refl version_alone)
-
-joins : (t : Trace) (mark : Tree) (ts : List Tree) → IsMark mark → SourceTrees t ts → AreTraceOf (mark ∷ ts) t
-joins t mark [] marked h = h
-joins t mark (source ∷ more) marked h = (marked, h.0, h.1)
-
-regrouped : (a b c d e f g : List ℕ) → a ++ b ++ c ++ d ++ e ++ f ++ g ≡ a ++ (b ++ (c ++ (d ++ (e ++ (f ++ g)))))
-regrouped a b c d e f g = simp append_assoc
-
--- the lines, with the end of a line before each but the first
-lines_are : (t : Trace) → trace_lines t ≡ codes "(chc-trace 1)" ++ (10 ∷ (string_group (codes "source") (encode_lower t.source) ++ (10 ∷ rest_text t.steps t.target)))
-lines_are t =
-    let target : target_line t.target ≡ codes "(target " ++ (string_of t.target ++ codes ")\n") = string_line_is (codes "target") t.target [] in
-    let source = string_line_is (codes "source") (encode_lower t.source) (rest_text t.steps t.target) in
-    regrouped (codes "(chc-trace 1)\n(source ") (string_of (encode_lower t.source)) (codes ")\n") (concat (map step_text t.steps)) (codes "(target ") (string_of t.target) (codes ")\n")
-    ∙ sym (ap (λ (text : List ℕ). codes "(chc-trace 1)\n" ++ text) (source ∙ ap (λ (text : List ℕ). codes "(source " ++ (string_of (encode_lower t.source) ++ (codes ")\n" ++ (concat (map step_text t.steps) ++ text)))) target))
+-- trees on lines, behind the end of a line
+lines_at : (ts : List Tree) → AllByRecursion (IsWritten 1000) ts → (place : ℕ) → TreesAt (AreLike ts) 1000 true place (10 ∷ concat (map line ts))
+lines_at [] written place = no_more_at (AreLike []) 1000 true place (10 ∷ []) refl refl
+lines_at (t ∷ ts) written place = first_line_at (10 ∷ []) refl t ts written.0 place (lines_at ts written.1)
 
 -- the lines of a trace say it, if its source is a digest and its numbers are below 2^32
 pub lines_say : (t : Trace) → IsDigest t.source → All HasSmallNumbers t.steps → SaysTrace (trace_lines t) t
 lines_say t digest small =
-    let rest : List ℕ = 10 ∷ (string_group (codes "source") (encode_lower t.source) ++ (10 ∷ rest_text t.steps t.target)) in
-    let trees : TreesAt (λ ts. AreTraceOf ts t) (inside + 1) true 0 (codes "(chc-trace 1)" ++ rest) =
-    next_at IsMark (SourceTrees t) (λ ts. AreTraceOf ts t) (inside + 1) true 0 [] (codes "(chc-trace 1)") rest refl
-    (mark_at (0 + 0) rest) (source_at t digest small (0 + 0 + length (codes "(chc-trace 1)"))) (joins t) in
-    let said = spells_from (λ ts. AreTraceOf ts t) (trace_lines t) (subst (λ (bytes : List ℕ). TreesAt (λ ts. AreTraceOf ts t) (inside + 1) true 0 bytes) (sym (lines_are t)) trees) in
-    record { trees = said.0; spelled = said.1; stands = said.2 }
+    let rest : List Tree = source_tree t.source ∷ map step_tree t.steps ++ target_tree t.target ∷ [] in
+    let mark : IsWritten 1000 mark_tree = short_written (codes "chc-trace") refl (number 1) (number_written 1 (omega arith)) in
+    let source : IsWritten 1000 (source_tree t.source) = short_written (codes "source") refl (Text 0 (encode_lower t.source)) (string_written (encode_lower t.source)) in
+    let trees = first_line_at [] refl mark_tree rest mark 0 (lines_at rest (source, steps_written t.steps small t.target)) in
+    let said = spells_from (AreLike (trace_trees t)) (trace_lines t) trees in
+    record { trees = said.0; spelled = said.1; stands = record { alike = said.2; digest = digest; small = small } }

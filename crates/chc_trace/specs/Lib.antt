@@ -1,2 +1,5 @@
+pub mod Kinds
+pub mod Numbers
+pub mod Places
 pub mod Readings
 pub mod Traces

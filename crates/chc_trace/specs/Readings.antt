@@ -1,15 +1,20 @@
--- What the trees of a trace are read as, part by part.
-use Rattle.std.specs.Prelude.{◌^◌, ◌==◌, ℕ, pos, negsuc, nat_lt, Bool, false, List, [], ◌∷◌, ◌++◌, if◌then◌else◌, codes, Option, Some, None, Result, Ok, Err}
+-- How the trees of a text are taken one after another, until they are a trace or one doesn't fit.
+use Rattle.std.specs.Prelude.{◌==◌, ℕ, Bool, false, cond, List, [], ◌∷◌, ◌++◌, codes, Option, Some, None, Result, Ok, Err}
+use Rattle.std.specs.Option.{option_map, option_or}
 use Rattle.std.specs.Str.{bytes_eq}
 use Rattle.hex.specs.Hex.{encode_lower, decode_sized}
 use Rattle.hex.specs.declared.error.FromHexError.{FromHexError}
 use Rattle.chc_sexpr.specs.declared.tree.Tree.{Tree, out-Tree}
 use Rattle.chc_sexpr.specs.declared.tree.Tree.TheOpen.{Tree-F}
 use Rattle.chc_sexpr.specs.Readings.{◌>>=◌}
-use Rattle.chc_sexpr.specs.Shapes.{is_symbol}
+use Rattle.chc_sexpr.specs.Shapes.{symbol_of, form_of}
 use Rattle.chc_state.specs.declared.step.Step.{Step}
-use Rattle.chc_state.specs.declared.step.Step.TheVariants as step
+use Rattle.chc_trace.specs.declared.progress.Progress.{Progress}
+use Rattle.chc_trace.specs.declared.progress.Progress.TheVariants as progress
 use Rattle.chc_trace.specs.declared.trace.Trace.{Trace}
+use Rattle.chc_trace.specs.Numbers.{one_number}
+use Rattle.chc_trace.specs.Kinds.{kinds, told_by}
+use Rattle.chc_trace.specs.Places.{Reading, bad_form, place_of, wanted_at, ◌>>>◌}
 
 -- the bytes of a level that is a string
 abbrev pub string_in : Tree-F Tree → Option (List ℕ)
@@ -21,112 +26,84 @@ string_in (Tree-F.Text place bytes) = Some bytes
 string_in (Tree-F.Other place token) = None
 string_in (Tree-F.Group place trees) = None
 
--- the bytes of one tree that is a string
+-- the bytes of one tree alone that is a string
 abbrev pub only_string : List Tree → Option (List ℕ)
 only_string [] = None
 only_string (t ∷ []) = string_in (out-Tree t)
 only_string (t ∷ u ∷ us) = None
 
--- the number of a level that is a numeral below 2^32
-abbrev pub number_in : Tree-F Tree → Option ℕ
-number_in (Tree-F.Symbol place name) = None
-number_in (Tree-F.Word place word) = None
-number_in (Tree-F.Keyword place word) = None
-number_in (Tree-F.Numeral place (pos n)) = if nat_lt n (2 ^ 32) then Some n else None
-number_in (Tree-F.Numeral place (negsuc n)) = None
-number_in (Tree-F.Text place bytes) = None
-number_in (Tree-F.Other place token) = None
-number_in (Tree-F.Group place trees) = None
-
--- the number of a tree that is a numeral below 2^32
-abbrev pub number_of : Tree → Option ℕ
-number_of tree = number_in (out-Tree tree)
-
--- these numbers, and after them those of the trees
-abbrev pub numbers_after : List ℕ → List Tree → Option (List ℕ)
-numbers_after made [] = Some made
-numbers_after made (t ∷ ts) = number_of t >>= (λ n. numbers_after (made ++ n ∷ []) ts)
-
--- the trees behind the first, if that is the symbol of that name
-abbrev pub behind : List ℕ → List Tree → Option (List Tree)
-behind name [] = None
-behind name (head ∷ more) = if is_symbol name head then Some more else None
-
--- the same of the trees of a level that is a group
-abbrev pub form_in : List ℕ → Tree-F Tree → Option (List Tree)
-form_in name (Tree-F.Symbol place other) = None
-form_in name (Tree-F.Word place word) = None
-form_in name (Tree-F.Keyword place word) = None
-form_in name (Tree-F.Numeral place number) = None
-form_in name (Tree-F.Text place bytes) = None
-form_in name (Tree-F.Other place token) = None
-form_in name (Tree-F.Group place trees) = behind name trees
+-- what stands behind the name, if it is that one
+abbrev pub behind : List ℕ → Option (List ℕ × List Tree) → Option (List Tree)
+behind name None = None
+behind name (Some (head, trees)) = cond (bytes_eq head name) (Some trees) None
 
 -- what stands behind the symbol of that name in a group that begins with it
-abbrev pub form_of : List ℕ → Tree → Option (List Tree)
-form_of name tree = form_in name (out-Tree tree)
+abbrev pub behind_name : List ℕ → Tree → Option (List Tree)
+behind_name name tree = behind name (form_of tree)
+
+-- the string that stands alone behind it
+abbrev pub string_behind : List ℕ → Tree → Option (List ℕ)
+string_behind name tree = behind_name name tree >>= only_string
 
 -- whether there is a number, and it is 1
 abbrev pub is_one : Option ℕ → Bool
 is_one None = false
 is_one (Some n) = n == 1
 
--- whether that is one tree, which is the numeral 1
-abbrev pub is_first : Option (List Tree) → Bool
-is_first None = false
-is_first (Some []) = false
-is_first (Some (t ∷ [])) = is_one (number_of t)
-is_first (Some (t ∷ u ∷ us)) = false
-
 -- whether the tree is the mark of a trace of the first version
 abbrev pub is_mark : Tree → Bool
-is_mark tree = is_first (form_of (codes "chc-trace") tree)
+is_mark tree = is_one (behind_name (codes "chc-trace") tree >>= one_number)
 
 -- the decoded digits, if they are written as they would be again
 abbrev pub if_written : List ℕ → Result (List ℕ) FromHexError → Option (List ℕ)
-if_written digits (Ok bytes) = if bytes_eq (encode_lower bytes) digits then Some bytes else None
+if_written digits (Ok bytes) = cond (bytes_eq (encode_lower bytes) digits) (Some bytes) None
 if_written digits (Err fault) = None
 
 -- the 32 bytes of 64 hexadecimal digits, lower case
 abbrev pub digest_of : List ℕ → Option (List ℕ)
 digest_of digits = if_written digits (decode_sized digits 32)
 
--- the string that a form of that name holds, and nothing else
-abbrev pub string_of_form : List ℕ → Tree → Option (List ℕ)
-string_of_form name tree = form_of name tree >>= only_string
-
 -- the digest of the source
 abbrev pub source_of : Tree → Option (List ℕ)
-source_of tree = string_of_form (codes "source") tree >>= digest_of
+source_of tree = string_behind (codes "source") tree >>= digest_of
 
 -- the text that the steps lead to
 abbrev pub target_of : Tree → Option (List ℕ)
-target_of tree = string_of_form (codes "target") tree
+target_of tree = string_behind (codes "target") tree
 
--- the step of a kind on predicates
-abbrev pub step_of_kind : Tree → List ℕ → Option Step
-step_of_kind kind preds =
-    if is_symbol (codes "unreached") kind then Some (step.Unreached preds)
-    else if is_symbol (codes "unneeded") kind then Some (step.Unneeded preds)
-    else None
-
--- the step that begins with its kind
+-- the step that the trees tell, of which the first is the symbol of its kind
 abbrev pub step_in : List Tree → Option Step
 step_in [] = None
-step_in (kind ∷ trees) = numbers_after [] trees >>= step_of_kind kind
+step_in (kind ∷ parts) = symbol_of kind >>= (λ word. told_by kinds word parts)
 
--- a step
+-- the step that a tree is
 abbrev pub step_of : Tree → Option Step
-step_of tree = form_of (codes "step") tree >>= step_in
+step_of tree = behind_name (codes "step") tree >>= step_in
 
--- these steps, and after them those of the trees
-abbrev pub steps_after : List Step → List Tree → Option (List Step)
-steps_after made [] = Some made
-steps_after made (t ∷ ts) = step_of t >>= (λ x. steps_after (made ++ x ∷ []) ts)
+-- with one more step
+abbrev pub with_step : List ℕ → List Step → Step → Progress
+with_step source steps x = progress.Stepping source (steps ++ x ∷ [])
 
--- the trace of its parts
-abbrev pub trace_of : Tree → Tree → List Tree → Tree → Option Trace
-trace_of mark source steps target =
-    if is_mark mark then (source_of source >>= (λ digest. target_of target >>= (λ text.
-    steps_after [] steps >>= (λ xs. Some (record { source = digest; steps = xs; target = text })))))
-    else None
+-- with the target
+abbrev pub with_target : List ℕ → List Step → List ℕ → Progress
+with_target source steps text = progress.Ended (record { source = source; steps = steps; target = text })
+
+-- how far the trees are taken with this one, if it fits
+abbrev pub taken : Progress → Tree → Option Progress
+taken progress.Start tree = cond (is_mark tree) (Some progress.Marked) None
+taken progress.Marked tree = option_map (λ source. progress.Stepping source []) (source_of tree)
+taken (progress.Stepping source steps) tree =
+    option_or (option_map (with_step source steps) (step_of tree)) (option_map (with_target source steps) (target_of tree))
+taken (progress.Ended t) tree = None
+
+-- the trace at the end of a text of that length
+abbrev pub at_end : ℕ → Progress → Reading Trace
+at_end length progress.Start = Err (bad_form length)
+at_end length progress.Marked = Err (bad_form length)
+at_end length (progress.Stepping source steps) = Err (bad_form length)
+at_end length (progress.Ended t) = Ok t
+
+-- the trace that the trees come to, from so far on, or the first that doesn't fit
+abbrev pub read_on : ℕ → Progress → List Tree → Reading Trace
+read_on length p [] = at_end length p
+read_on length p (t ∷ ts) = wanted_at (place_of t) (taken p t) >>> (λ q. read_on length q ts)

@@ -2,6 +2,9 @@
 #![tactic(auto)]
 
 mod hashing;
+mod kind;
+mod place;
+mod progress;
 mod read;
 mod shape;
 mod text;

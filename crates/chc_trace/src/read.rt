@@ -1,15 +1,19 @@
 //! Traces from texts.
 
-ghost use Rattle.std.specs.Prelude.{◌≡◌, ◌<◌, ◌^◌, [], length, codes, IfOk};
-ghost use Rattle.std.specs.Option.{option_copied};
+ghost use Rattle.std.specs.Prelude.{◌≡◌, ◌<◌, ◌^◌, length, IfOk};
 ghost use Rattle.chc_sexpr.specs.Readings.{Gives};
-ghost use Rattle.chc_trace.specs.Readings.{is_mark, digest_of, source_of, numbers_after, step_of_kind, step_in, step_of, steps_after, trace_of};
-ghost use Rattle.chc_trace.specs.Traces.{IsTraceOfTrees, IsTraceReading};
+ghost use Rattle.chc_trace.specs.Places.{Tells, place_of, wanted_at};
+ghost use Rattle.chc_trace.specs.declared.progress.Progress.TheVariants as progress;
+ghost use Rattle.chc_trace.specs.Readings.{at_end, digest_of, is_mark, read_on, source_of, step_in, step_of, taken};
+ghost use Rattle.chc_trace.specs.Traces.{IsTraceReading};
 
-use crate::shape::{form_of, number_of, string_of_form};
+use crate::kind::told_by;
+use crate::place::{bad_form, fitting};
+use crate::progress::Progress;
+use crate::shape::{behind_name, one_number, string_behind};
 use crate::text::hex_digits;
 use crate::trace::Trace;
-use chc_sexpr::{TextErr, Tree, is_symbol, read_trees};
+use chc_sexpr::{TextErr, Tree, first_fault_is_one, read_trees, symbol_of};
 use chc_sorts::{List, NoMemory};
 use chc_source::ByteText;
 use chc_state::Step;
@@ -20,9 +24,9 @@ use std::alloc::Global;
 fn is_mark(tree: &Tree) -> bool
     ensures { result ≡ is_mark tree.now }
 {
-    match form_of(tree, b"chc-trace") {
-        Some([version]) => matches!(number_of(version), Some(1)),
-        _ => false,
+    match behind_name(tree, b"chc-trace") {
+        Some(version) => one_number(version) == Some(1),
+        None => false,
     }
 }
 
@@ -40,44 +44,17 @@ fn digest_of(digits: &[u8]) -> Option<[u8; 32]>
 fn source_of(tree: &Tree) -> Option<[u8; 32]>
     ensures { result ≡ source_of tree.now }
 {
-    digest_of(string_of_form(tree, b"source")?)
+    digest_of(string_behind(tree, b"source")?)
 }
 
-/// The numbers of trees that are numerals.
-fn numbers_of(alloc: Global, trees: &[Tree]) -> Result<Option<List<u32>>, NoMemory>
-    ensures { Gives result (numbers_after [] trees.now) }
-{
-    let mut numbers = List::new(alloc);
-    for tree in trees {
-        match number_of(tree) {
-            Some(number) => numbers.push(number)?,
-            None => return Ok(None),
-        }
-    }
-    Ok(Some(numbers))
-}
-
-/// The step of a kind on predicates.
-fn step_of_kind(kind: &Tree, preds: List<u32>) -> Option<Step>
-    ensures { result ≡ step_of_kind kind.now preds }
-{
-    if is_symbol(kind, b"unreached") {
-        return Some(Step::Unreached(preds));
-    }
-    if is_symbol(kind, b"unneeded") {
-        return Some(Step::Unneeded(preds));
-    }
-    None
-}
-
-/// The step that begins with its kind.
+/// The step that trees tell, of which the first is the symbol of its kind.
 fn step_in(alloc: Global, trees: &[Tree]) -> Result<Option<Step>, NoMemory>
     ensures { Gives result (step_in trees.now) }
 {
     match trees {
         [] => Ok(None),
-        [kind, numbers @ ..] => match numbers_of(alloc, numbers)? {
-            Some(preds) => Ok(step_of_kind(kind, preds)),
+        [kind, parts @ ..] => match symbol_of(kind) {
+            Some(word) => told_by(alloc, word, parts),
             None => Ok(None),
         },
     }
@@ -87,24 +64,10 @@ fn step_in(alloc: Global, trees: &[Tree]) -> Result<Option<Step>, NoMemory>
 fn step_of(alloc: Global, tree: &Tree) -> Result<Option<Step>, NoMemory>
     ensures { Gives result (step_of tree.now) }
 {
-    match form_of(tree, b"step") {
+    match behind_name(tree, b"step") {
         Some(trees) => step_in(alloc, trees),
         None => Ok(None),
     }
-}
-
-/// The steps that trees are.
-fn steps_of(alloc: Global, trees: &[Tree]) -> Result<Option<List<Step>>, NoMemory>
-    ensures { Gives result (steps_after [] trees.now) }
-{
-    let mut steps = List::new(alloc);
-    for tree in trees {
-        match step_of(alloc, tree)? {
-            Some(step) => steps.push(step)?,
-            None => return Ok(None),
-        }
-    }
-    Ok(Some(steps))
 }
 
 /// A text of the bytes.
@@ -116,55 +79,87 @@ fn text_of(alloc: Global, bytes: &[u8]) -> Result<ByteText, NoMemory>
     Ok(text)
 }
 
-/// The trace of its parts.
-fn trace_of_parts(
+/// How far the tree behind the source and these steps leads.
+fn step_or_target(
     alloc: Global,
-    mark: &Tree,
-    source: &Tree,
-    steps: &[Tree],
-    target: &Tree,
-) -> Result<Option<Trace>, NoMemory>
-    ensures { Gives result (trace_of mark.now source.now steps.now target.now) }
+    source: [u8; 32],
+    steps: List<Step>,
+    tree: &Tree,
+) -> Result<Option<Progress>, NoMemory>
+    ensures { Gives result (taken (progress.Stepping source steps) tree.now) }
 {
-    if !is_mark(mark) {
-        return Ok(None);
+    if let Some(step) = step_of(alloc, tree)? {
+        let mut steps = steps;
+        steps.push(step)?;
+        return Ok(Some(Progress::Stepping(source, steps)));
     }
-    let Some(source) = source_of(source) else {
-        return Ok(None);
-    };
-    let Some(bytes) = string_of_form(target, b"target") else {
-        return Ok(None);
-    };
-    let Some(steps) = steps_of(alloc, steps)? else {
-        return Ok(None);
-    };
-    let target = text_of(alloc, bytes)?;
-    Ok(Some(Trace {
-        source,
-        steps,
-        target,
-    }))
-}
-
-/// The trace that trees are.
-fn trace_of_trees(alloc: Global, trees: &[Tree]) -> Result<Option<Trace>, NoMemory>
-    ensures { IsTraceOfTrees trees.now result }
-{
-    match trees {
-        [mark, source, steps @ .., target] => trace_of_parts(alloc, mark, source, steps, target),
-        [] | [_] | [_, _] => Ok(None),
+    match string_behind(tree, b"target") {
+        Some(bytes) => {
+            let target = text_of(alloc, bytes)?;
+            Ok(Some(Progress::Ended(Trace {
+                source,
+                steps,
+                target,
+            })))
+        }
+        None => Ok(None),
     }
 }
 
-/// Reads the trace that a text of at most 4,294,967,295 bytes says, or gives `None` where it says none. The
-/// only error is that memory was refused.
-pub fn read_trace(alloc: Global, bytes: &[u8]) -> Result<Option<Trace>, NoMemory>
+/// How far the next tree leads, if it fits.
+fn taken(alloc: Global, progress: Progress, tree: &Tree) -> Result<Option<Progress>, NoMemory>
+    ensures { Gives result (taken progress tree.now) }
+{
+    match progress {
+        Progress::Start => Ok(is_mark(tree).then_some(Progress::Marked)),
+        Progress::Marked => match source_of(tree) {
+            Some(source) => Ok(Some(Progress::Stepping(source, List::new(alloc)))),
+            None => Ok(None),
+        },
+        Progress::Stepping(source, steps) => step_or_target(alloc, source, steps, tree),
+        Progress::Ended(_) => Ok(None),
+    }
+}
+
+/// How far the next tree leads.
+fn next(alloc: Global, progress: Progress, tree: &Tree) -> Result<Progress, TextErr>
+    ensures { Tells result (wanted_at (place_of tree.now) (taken progress tree.now)) }
+{
+    let led = taken(alloc, progress, tree)?;
+    fitting(alloc, tree, led)
+}
+
+/// The trace at the end of a text of that length.
+fn at_end(alloc: Global, progress: Progress, length: u64) -> Result<Trace, TextErr>
+    ensures { Tells result (at_end length progress) }
+{
+    match progress {
+        Progress::Ended(trace) => Ok(trace),
+        Progress::Start | Progress::Marked | Progress::Stepping(_, _) => {
+            Err(bad_form(alloc, length))
+        }
+    }
+}
+
+/// The trace that the trees of a text of that length are.
+fn trace_of(alloc: Global, trees: &[Tree], length: u64) -> Result<Trace, TextErr>
+    ensures { Tells result (read_on length progress.Start trees.now) }
+{
+    let mut progress = Progress::Start;
+    for tree in trees {
+        progress = next(alloc, progress, tree)?;
+    }
+    at_end(alloc, progress, length)
+}
+
+/// Reads the trace that a text of at most 4,294,967,295 bytes says; it says no other. Errors: `At` the first fault of a text
+/// that says none, of the tokens and groups before the `BadForm` of a tree that doesn't fit, or of the text's end where a
+/// tree is wanting; `NoMemory`.
+pub fn read_trace(alloc: Global, bytes: &[u8]) -> Result<Trace, TextErr>
     requires { length bytes.now < 2 ^ 32 }
     ensures { IsTraceReading bytes.now result }
 {
-    match read_trees(alloc, bytes) {
-        Ok(trees) => trace_of_trees(alloc, trees.as_slice()),
-        Err(TextErr::At(_)) => Ok(None),
-        Err(TextErr::NoMemory) => Err(NoMemory),
-    }
+    first_fault_is_one();
+    let trees = read_trees(alloc, bytes)?;
+    trace_of(alloc, trees.as_slice(), bytes.len() as u64)
 }

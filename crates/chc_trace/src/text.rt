@@ -4,8 +4,12 @@ ghost use Rattle.std.specs.Prelude.{◌≡◌, ◌++◌, [], ◌∷◌, codes, d
 ghost use Rattle.std.specs.List.{concat, All};
 ghost use Rattle.hex.specs.Hex.{encode_lower};
 ghost use Rattle.chc_sexpr.specs.Spelling.{in_string, string_of};
-ghost use Rattle.chc_trace.specs.Traces.{numbers_text, step_line, step_text, trace_lines, AreSmall, HasSmallNumbers, IsDigest, SaysTrace};
+ghost use Rattle.chc_sexpr.specs.Writing.{spaced};
+ghost use Rattle.chc_trace.specs.Numbers.{AreSmall};
+ghost use Rattle.chc_trace.specs.Kinds.{HasSmallNumbers};
+ghost use Rattle.chc_trace.specs.Traces.{line, source_tree, step_tree, target_tree, trace_lines, IsDigest, IsReadAs, SaysTrace};
 
+use crate::kind::{word_of, write_parts};
 use crate::trace::Trace;
 use chc_sorts::{List, NoMemory};
 use chc_source::ByteText;
@@ -24,8 +28,8 @@ fn write_number(out: &mut ByteText, n: u32) -> Result<(), NoMemory>
 }
 
 /// Writes numbers in decimal, with a space before each.
-fn write_numbers(out: &mut ByteText, numbers: &[u32]) -> Result<(), NoMemory>
-    ensures text { OnOk result (out.new ≡ out.old ++ numbers_text numbers.now) }
+pub fn write_numbers(out: &mut ByteText, numbers: &[u32]) -> Result<(), NoMemory>
+    ensures text { OnOk result (out.new ≡ out.old ++ spaced (map decimal numbers.now)) }
     ensures small { OnOk result (AreSmall numbers.now) }
 {
     for n in numbers {
@@ -34,38 +38,21 @@ fn write_numbers(out: &mut ByteText, numbers: &[u32]) -> Result<(), NoMemory>
     Ok(())
 }
 
-/// Writes the line of a step that takes a list of predicates.
-fn write_step_line(out: &mut ByteText, kind: &[u8], preds: &[u32]) -> Result<(), NoMemory>
-    ensures text { OnOk result (out.new ≡ out.old ++ step_line kind.now preds.now) }
-    ensures small { OnOk result (AreSmall preds.now) }
+/// Writes the line of a step.
+fn write_step(out: &mut ByteText, step: &Step) -> Result<(), NoMemory>
+    ensures text { OnOk result (out.new ≡ out.old ++ line (step_tree step.now)) }
+    ensures small { OnOk result (HasSmallNumbers step.now) }
 {
     out.extend(b"(step ")?;
-    out.extend(kind)?;
-    write_numbers(out, preds)?;
+    out.extend(word_of(step))?;
+    write_parts(out, step)?;
     out.extend(b")\n")?;
     Ok(())
 }
 
-/// Writes the line of a step.
-fn write_step(out: &mut ByteText, step: &Step) -> Result<(), NoMemory>
-    ensures text { OnOk result (out.new ≡ out.old ++ step_text step.now) }
-    ensures small { OnOk result (HasSmallNumbers step.now) }
-{
-    match step {
-        Step::Unreached(preds) => {
-            write_step_line(out, b"unreached", preds.as_slice())?;
-            Ok(())
-        }
-        Step::Unneeded(preds) => {
-            write_step_line(out, b"unneeded", preds.as_slice())?;
-            Ok(())
-        }
-    }
-}
-
 /// Writes the lines of the steps.
 fn write_steps(out: &mut ByteText, steps: &[Step]) -> Result<(), NoMemory>
-    ensures text { OnOk result (out.new ≡ out.old ++ concat (map step_text steps.now)) }
+    ensures text { OnOk result (out.new ≡ out.old ++ concat (map (λ x. line (step_tree x)) steps.now)) }
     ensures small { OnOk result (All HasSmallNumbers steps.now) }
 {
     for step in steps {
@@ -119,7 +106,7 @@ pub fn hex_digits(digest: &[u8; 32]) -> [u8; 64]
 /// Writes the line of the source's digest.
 fn write_source(out: &mut ByteText, source: &[u8; 32]) -> Result<(), NoMemory>
     ensures digest { OnOk result (IsDigest source.now) }
-    ensures text { OnOk result (out.new ≡ out.old ++ codes "(source " ++ string_of (encode_lower source.now) ++ codes ")\n") }
+    ensures text { OnOk result (out.new ≡ out.old ++ line (source_tree source.now)) }
 {
     let digits = hex_digits(source);
     out.extend(b"(source ")?;
@@ -128,17 +115,26 @@ fn write_source(out: &mut ByteText, source: &[u8; 32]) -> Result<(), NoMemory>
     Ok(())
 }
 
-/// The text of a trace, which says that trace: `read_trace` reads it again.
+/// Writes the line of the text that the steps lead to.
+fn write_target(out: &mut ByteText, target: &[u8]) -> Result<(), NoMemory>
+    ensures { OnOk result (out.new ≡ out.old ++ line (target_tree target.now)) }
+{
+    out.extend(b"(target ")?;
+    write_string(out, target)?;
+    out.extend(b")\n")?;
+    Ok(())
+}
+
+/// The text of a trace, which says that trace, so that `read_trace` reads it again. The only error is that memory was refused.
 pub fn trace_text(alloc: Global, t: &Trace) -> Result<ByteText, NoMemory>
     ensures lines { IfOk result (λ text. text ≡ trace_lines t.now) }
-    ensures again { IfOk result (λ text. SaysTrace text t.now) }
+    ensures says { IfOk result (λ text. SaysTrace text t.now) }
+    ensures again { IfOk result (λ text. IsReadAs text t.now) }
 {
     let mut out = ByteText::new(alloc);
     out.extend(b"(chc-trace 1)\n")?;
     write_source(&mut out, &t.source)?;
     write_steps(&mut out, t.steps.as_slice())?;
-    out.extend(b"(target ")?;
-    write_string(&mut out, t.target.bytes())?;
-    out.extend(b")\n")?;
+    write_target(&mut out, t.target.bytes())?;
     Ok(out)
 }

@@ -1,5 +1,5 @@
 -- Both kinds of steps keep the answer.
-use Rattle.std.proofs.Common.{◌≡◌, Bool, true, false, not, ◌||◌, List, Some, None, Option, inl, inr, sym, ap, ◌∙◌}
+use Rattle.std.proofs.Common.{◌≡◌, ◌↔◌, Bool, true, false, not, ◌||◌, List, Some, None, Option, inl, inr, sym, ap, ◌∙◌}
 use Rattle.std.specs.List.{filter}
 use Rattle.std.proofs.lemmas.Bool.{not_from_false, not-true, or_cases, false≢true}
 use Rattle.chc_sorts.specs.Signature.{Signature}
@@ -8,10 +8,11 @@ use Rattle.chc_values.specs.declared.world.WorldEntry.{WorldEntry}
 use Rattle.chc_state.specs.declared.clause.Atom.{Atom}
 use Rattle.chc_state.specs.declared.clause.Clause.{Clause}
 use Rattle.chc_state.specs.States.{StateView, head_any}
-use Rattle.chc_state.specs.Meaning.{Interp, Fires, SameAnswer, In}
-use Rattle.chc_state.specs.Steps.{PredSet, body_meets, head_meets, is_unreached, is_unneeded, without}
+use Rattle.chc_state.specs.Meaning.{Interp, Fires, DerivesFalse, In}
+use Rattle.chc_state.specs.PredSets.{PredSet}
+use Rattle.pass_slice.specs.Slices.{body_meets, head_meets, is_unreached, is_unneeded, without}
 use Rattle.chc_state.proofs.Members.{In-filter, In-filtered, all-at, none-from, none-at}
-use Rattle.chc_state.proofs.Transfers.{Transfer, transferred}
+use Rattle.chc_state.proofs.Transfers.{Transfer, transferred, fewer}
 
 -- the head's test is the set's test of its predicate, and false at a query
 pub head_meets-some : (set : PredSet) (c : Clause) (h : Atom) → c.head ≡ Some h → head_meets set c ≡ set h.pred
@@ -23,19 +24,7 @@ head_meets-none set c e = ap (λ (o : Option Atom). head_any (λ (a : Atom). set
 module _ (sig : Signature) (w : List WorldEntry) (cs : List Clause) where
   -- fewer clauses derive no more
   kept : (test : Clause → Bool) → Transfer sig w (filter test cs) cs (λ J. J)
-  kept test J closed = (
-    λ p us n. closed p us (record {
-      clause = n.clause;
-      head = n.head;
-      env = n.env;
-      stands = In-filtered test n.clause cs n.stands;
-      concludes = n.concludes;
-      on = n.on;
-      gives = n.gives;
-      fires = n.fires;
-    }),
-    λ f. record { clause = f.clause; env = f.env; stands = In-filtered test f.clause cs f.stands; query = f.query; fires = f.fires },
-  )
+  kept test = fewer sig w cs (filter test cs) (λ c. In-filtered test c cs)
 
   module _ (set : PredSet) where
     -- nothing of the set holds
@@ -127,14 +116,14 @@ module _ (sig : Signature) (w : List WorldEntry) (cs : List Clause) where
         ]
 
 -- without the clauses that need an unreached predicate, the answer is the same
-pub unreached_same : (s : StateView) (set : PredSet) → is_unreached s.clauses set ≡ true → SameAnswer s (without set (body_meets set) s)
+pub unreached_same : (s : StateView) (set : PredSet) → is_unreached s.clauses set ≡ true → (w : List WorldEntry) → DerivesFalse s w ↔ DerivesFalse (without set (body_meets set) s) w
 unreached_same s set meets w = (
   transferred s.sig w s.clauses (filter (λ c. not (body_meets set c)) s.clauses) (avoiding s.sig w s.clauses set) (unreached s.sig w s.clauses set meets),
   transferred s.sig w (filter (λ c. not (body_meets set c)) s.clauses) s.clauses (λ J. J) (kept s.sig w s.clauses (λ c. not (body_meets set c))),
 )
 
 -- without the clauses that conclude an unneeded predicate, the answer is the same
-pub unneeded_same : (s : StateView) (set : PredSet) → is_unneeded s.clauses set ≡ true → SameAnswer s (without set (head_meets set) s)
+pub unneeded_same : (s : StateView) (set : PredSet) → is_unneeded s.clauses set ≡ true → (w : List WorldEntry) → DerivesFalse s w ↔ DerivesFalse (without set (head_meets set) s) w
 unneeded_same s set meets w = (
   transferred s.sig w s.clauses (filter (λ c. not (head_meets set c)) s.clauses) (granting s.sig w s.clauses set) (unneeded s.sig w s.clauses set meets),
   transferred s.sig w (filter (λ c. not (head_meets set c)) s.clauses) s.clauses (λ J. J) (kept s.sig w s.clauses (λ c. not (head_meets set c))),

@@ -5,7 +5,7 @@ use Rattle.std.specs.List.{list_all}
 use Rattle.std.proofs.Math.Path.{fun_ext}
 use Rattle.std.proofs.lemmas.Bool.{and_parts, and_from}
 use Rattle.std.proofs.lemmas.Bool.Decides.{nat_tests}
-use Rattle.chc_state.specs.Steps.{is_ascending}
+use Rattle.chc_state.specs.PredSets.{is_ascending}
 
 abbrev at_least : ℕ → ℕ → Bool
 at_least n p = not (nat_lt p n)

@@ -9,11 +9,11 @@ use Rattle.std.proofs.lemmas.Bool.{not_from_true, or_cases, or_left, or_from, an
 use Rattle.chc_state.specs.declared.clause.Atom.{Atom}
 use Rattle.chc_state.specs.declared.clause.Clause.{Clause}
 use Rattle.chc_state.specs.declared.clause.PredDecl.{PredDecl}
-use Rattle.chc_state.specs.declared.step.Step.TheVariants as step
+use Rattle.pass_slice.specs.Slices.{Slice, body_meets, head_meets, is_unreached, is_unneeded, Meets, IsGreatest, Greatest}
 use Rattle.chc_state.specs.States.{StateView, is_live, head_any}
 use Rattle.chc_state.specs.Limits.{first_passed}
 use Rattle.chc_state.specs.Meaning.{In}
-use Rattle.chc_state.specs.Steps.{PredSet, set_of, body_meets, head_meets, is_unreached, is_unneeded, is_ascending, Meets, IsGreatest, Finds}
+use Rattle.chc_state.specs.PredSets.{PredSet, set_of, is_ascending}
 use Rattle.chc_state.proofs.Members.{In-at, all-at, all-from, any-at, some-from}
 use Rattle.pass_slice.specs.Tables.{marked, places, Bounds, Reaches, Needs, Strikes, AtPlace, head_pred}
 use Rattle.pass_slice.proofs.Removing.{within-unreached, within-unneeded}
@@ -173,7 +173,7 @@ module _ (s : StateView) (table : List Bool) (ps : List ℕ) (e : ps ≡ places 
   ascending : is_ascending ps ≡ true
   ascending = ap is_ascending e ∙ is_ascending-places 0 table
 
-  pub unreached_found : Bounds is_unreached s table → is_unreached s.clauses (marked table) ≡ true → IsGreatest is_unreached step.Unreached s ps
+  pub unreached_found : Bounds is_unreached s table → is_unreached s.clauses (marked table) ≡ true → IsGreatest Slice.forward s ps
   unreached_found b settled =
       let live = numbers_live is_unreached s table ps b e in
       record {
@@ -187,7 +187,7 @@ module _ (s : StateView) (table : List Bool) (ps : List ℕ) (e : ps ≡ places 
         greatest = greatest is_unreached b;
       }
 
-  pub unneeded_found : Bounds is_unneeded s table → is_unneeded s.clauses (marked table) ≡ true → IsGreatest is_unneeded step.Unneeded s ps
+  pub unneeded_found : Bounds is_unneeded s table → is_unneeded s.clauses (marked table) ≡ true → IsGreatest Slice.backward s ps
   unneeded_found b settled =
       let live = numbers_live is_unneeded s table ps b e in
       record {
@@ -234,13 +234,13 @@ marked_count-falls table p inside h =
 -- what some numbers of the settled table tell
 pub unreached_finds : (s : StateView) (table : List Bool) (found : Option (List ℕ)) → first_passed s.preds s.clauses ≡ None
     → Bounds is_unreached s table → is_unreached s.clauses (marked table) ≡ true
-    → MatchOption found (places 0 table ≡ []) (λ ps. (ps ≡ places 0 table) × (ps ≢ [])) → Finds is_unreached step.Unreached s found
+    → MatchOption found (places 0 table ≡ []) (λ ps. (ps ≡ places 0 table) × (ps ≢ [])) → Greatest Slice.forward s found
 unreached_finds s table None within b settled h = nothing_found is_unreached s table b h
 unreached_finds s table (Some ps) within b settled h = unreached_found s table ps h.0 h.1 within b settled
 
 pub unneeded_finds : (s : StateView) (table : List Bool) (found : Option (List ℕ)) → first_passed s.preds s.clauses ≡ None
     → Bounds is_unneeded s table → is_unneeded s.clauses (marked table) ≡ true
-    → MatchOption found (places 0 table ≡ []) (λ ps. (ps ≡ places 0 table) × (ps ≢ [])) → Finds is_unneeded step.Unneeded s found
+    → MatchOption found (places 0 table ≡ []) (λ ps. (ps ≡ places 0 table) × (ps ≢ [])) → Greatest Slice.backward s found
 unneeded_finds s table None within b settled h = nothing_found is_unneeded s table b h
 unneeded_finds s table (Some ps) within b settled h = unneeded_found s table ps h.0 h.1 within b settled
 
@@ -252,3 +252,9 @@ live_inside preds ps n e h = all-from (λ p. nat_lt p n) ps (λ p i. lt-ltb p n 
     inside [] p h = absurd (false≢true h)
     inside (d ∷ preds) zero h = omega arith
     inside (d ∷ preds) (suc p) h = let below = inside preds p h in omega arith
+
+-- the members of a list of live predicates are live
+pub set_of-live : (preds : List PredDecl) (ps : List ℕ) (p : ℕ) → list_all (is_live preds) ps ≡ true → set_of ps p ≡ true → is_live preds p ≡ true
+set_of-live preds ps p live h =
+    let found = some-from (nat_eq p) ps h in
+    ap (is_live preds) (eqb-true p found.0 found.2) ∙ all-at (is_live preds) found.0 ps live found.1

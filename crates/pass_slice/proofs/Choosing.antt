@@ -4,10 +4,10 @@ use Rattle.std.specs.List.{list_all}
 use Rattle.std.proofs.Math.Path.{fun_ext}
 use Rattle.std.proofs.lemmas.Bool.{and_parts, false≢true}
 use Rattle.chc_state.specs.declared.clause.PredDecl.{PredDecl}
-use Rattle.chc_state.specs.declared.step.Step.TheVariants as step
+use Rattle.pass_slice.specs.Slices.{Slice, is_unreached, is_unneeded, CanGo}
 use Rattle.chc_state.specs.States.{StateView, is_live}
 use Rattle.chc_state.specs.Limits.{first_passed}
-use Rattle.chc_state.specs.Steps.{PredSet, set_of, is_ascending, is_unreached, is_unneeded, IsLegal}
+use Rattle.chc_state.specs.PredSets.{PredSet, set_of, is_ascending}
 use Rattle.pass_slice.specs.Tables.{marked}
 use Rattle.pass_slice.specs.Choices.{is_choice}
 use Rattle.pass_slice.proofs.Removing.{within-unreached, within-unneeded}
@@ -34,7 +34,7 @@ pub record Looked (s : StateView) (ps : List ℕ) (holds : PredSet → Bool) (me
 condition_is : (s : StateView) (ps : List ℕ) (holds : PredSet → Bool) (met : Bool) → Looked s ps holds met → met ≡ holds (set_of ps)
 condition_is s ps holds met h = h.meets ∙ ap holds (fun_ext h.same)
 
-pub legal_unreached : (s : StateView) (ps : List ℕ) (met : Bool) → Looked s ps (is_unreached s.clauses) met → (met ≡ true) ↔ IsLegal s (step.Unreached ps)
+pub legal_unreached : (s : StateView) (ps : List ℕ) (met : Bool) → Looked s ps (is_unreached s.clauses) met → (met ≡ true) ↔ CanGo Slice.forward s ps
 legal_unreached s ps met h =
     let c = chosen s.preds ps h.choice in
     let is = condition_is s ps (is_unreached s.clauses) met h in (
@@ -42,7 +42,7 @@ legal_unreached s ps met h =
       λ legal. is ∙ legal.meets,
     )
 
-pub legal_unneeded : (s : StateView) (ps : List ℕ) (met : Bool) → Looked s ps (is_unneeded s.clauses) met → (met ≡ true) ↔ IsLegal s (step.Unneeded ps)
+pub legal_unneeded : (s : StateView) (ps : List ℕ) (met : Bool) → Looked s ps (is_unneeded s.clauses) met → (met ≡ true) ↔ CanGo Slice.backward s ps
 legal_unneeded s ps met h =
     let c = chosen s.preds ps h.choice in
     let is = condition_is s ps (is_unneeded s.clauses) met h in (

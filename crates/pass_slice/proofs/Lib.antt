@@ -3,6 +3,11 @@ pub mod Ascending
 pub mod Bounding
 pub mod Choosing
 pub mod Leading
+pub mod Numbering
 pub mod Removing
 pub mod Retiring
 pub mod Taking
+pub mod Undoing
+pub mod Voided
+pub mod Room
+pub mod Voiding

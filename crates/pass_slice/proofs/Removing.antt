@@ -1,5 +1,5 @@
 -- The state after a slice: predicates that were live and aren't now, limits that still hold.
-use Rattle.std.proofs.Common.{◌≡◌, ◌≢◌, ℕ, zero, suc, ◌+◌, ◌≤◌, ◌<◌, Bool, true, false, not, ◌&&◌, ◌||◌, cond, List, [], ◌∷◌, Some, None, Option, length, sum_by, inl, inr, sym, ap, ◌∙◌, refl, arith, add-zero}
+use Rattle.std.proofs.Common.{◌≡◌, ◌≢◌, ◌↔◌, ℕ, zero, suc, ◌+◌, ◌≤◌, ◌<◌, Bool, true, false, not, ◌&&◌, ◌||◌, cond, List, [], ◌∷◌, Some, None, Option, length, sum_by, inl, inr, sym, ap, ◌∙◌, refl, arith, add-zero}
 use Rattle.std.specs.Prelude.{nat_lt, nat_eq, is_none}
 use Rattle.std.specs.List.{filter, list_any, list_all}
 use Rattle.std.proofs.lemmas.Bool.{not_from_false, not-true, or_cases, or_left, and_parts, and_from, false≢true, eq-eqb}
@@ -10,16 +10,20 @@ use Rattle.chc_sorts.specs.Sorts.{sort_fits}
 use Rattle.chc_state.specs.declared.clause.Atom.{Atom}
 use Rattle.chc_state.specs.declared.clause.Clause.{Clause}
 use Rattle.chc_state.specs.declared.clause.PredDecl.{PredDecl}
-use Rattle.chc_state.specs.declared.step.Step.{Step}
-use Rattle.chc_state.specs.declared.step.Step.TheVariants as step
+use Rattle.pass_slice.specs.Slices.{Slice, body_meets, head_meets, is_unreached, is_unneeded, condition, goes, without, sliced, CanGo}
 use Rattle.chc_state.specs.States.{StateView, is_live, on_live, head_all, head_any, uses_live}
 use Rattle.chc_state.specs.Limits.{charge, charge_of_args, filled_of_body, is_query, live_count, first_passed}
 use Rattle.chc_state.specs.Meaning.{In}
 use Rattle.chc_state.specs.Sorts.{positions, positions_fit, is_sorted_clause, are_sorted}
 use Rattle.chc_state.specs.WellFormed.{is_well_formed, are_well_formed}
-use Rattle.chc_state.specs.Steps.{PredSet, set_of, body_meets, head_meets, is_unreached, is_unneeded, retired, without, after, IsLegal, Applies}
+use Rattle.chc_state.specs.PredSets.{PredSet, set_of, retired}
 use Rattle.chc_state.proofs.Members.{In-filtered, kept-passes, all-at, all-from, none-at}
 use Rattle.chc_state.proofs.Limiting.{WithinLimits-from_none, none_from-WithinLimits, WithinLimits-fewer}
+use Rattle.chc_values.specs.declared.world.WorldEntry.{WorldEntry}
+use Rattle.chc_state.specs.Meaning.{DerivesFalse}
+use Rattle.chc_state.specs.Measure.{measure, IsLess}
+use Rattle.chc_state.specs.Passes.{Applies}
+use Rattle.chc_state.proofs.Retired.{length-retired}
 use Rattle.pass_slice.proofs.Answering.{head_meets-none, unreached_same, unneeded_same}
 
 module _ (set : PredSet) where
@@ -171,13 +175,13 @@ HasLive-some preds (p ∷ ps) some live =
 
 -- the limits hold after removing live predicates by either kind
 pub within-unreached : (s : StateView) (ps : List ℕ) → ps ≢ [] → list_all (is_live s.preds) ps ≡ true
-    → first_passed s.preds s.clauses ≡ None → first_passed (after s (step.Unreached ps)).preds (after s (step.Unreached ps)).clauses ≡ None
+    → first_passed s.preds s.clauses ≡ None → first_passed (sliced Slice.forward s ps).preds (sliced Slice.forward s ps).clauses ≡ None
 within-unreached s ps some live within =
     let p = HasLive-some s.preds ps some live in
     fits (set_of ps) s (body_meets (set_of ps)) (λ c h asks. charge-with_body (set_of ps) c h) p.place p.live p.in_set within
 
 pub within-unneeded : (s : StateView) (ps : List ℕ) → ps ≢ [] → list_all (is_live s.preds) ps ≡ true
-    → first_passed s.preds s.clauses ≡ None → first_passed (after s (step.Unneeded ps)).preds (after s (step.Unneeded ps)).clauses ≡ None
+    → first_passed s.preds s.clauses ≡ None → first_passed (sliced Slice.backward s ps).preds (sliced Slice.backward s ps).clauses ≡ None
 within-unneeded s ps some live within =
     let p = HasLive-some s.preds ps some live in
     fits (set_of ps) s (head_meets (set_of ps)) (λ c h asks. absurd (no_query (set_of ps) c h asks)) p.place p.live p.in_set within
@@ -189,16 +193,31 @@ fewer_live s ps some live =
     let e : 0 + p.place ≡ p.place = omega arith in
     live_count-falls (set_of ps) 0 s.preds p.place p.live (ap (set_of ps) e ∙ p.in_set)
 
-pub applies : (s : StateView) (x : Step) → IsLegal s x → Applies s x (after s x)
-applies s (step.Unreached ps) h =
-    record { taken = refl; answer = unreached_same s (set_of ps) h.meets; fewer = fewer_live s ps h.some h.live }
-applies s (step.Unneeded ps) h =
-    record { taken = refl; answer = unneeded_same s (set_of ps) h.meets; fewer = fewer_live s ps h.some h.live }
+-- so the measure is less
+pub lessens : (x : Slice) (s : StateView) (ps : List ℕ) → CanGo x s ps → IsLess (measure (sliced x s ps)) (measure s)
+lessens x s ps h = inl (fewer_live s ps h.some h.live)
 
-pub uses_live-after : (s : StateView) (x : Step) → IsLegal s x → uses_live s.preds s.clauses ≡ true → uses_live (after s x).preds (after s x).clauses ≡ true
-uses_live-after s (step.Unreached ps) h live =
+-- what taking a slice gives
+pub applies : (x : Slice) (s : StateView) (ps : List ℕ) → CanGo x s ps → Applies (sliced x) (λ qs. true) (λ qs. false) s ps (sliced x s ps)
+applies x s ps h =
+    let long = length-retired (set_of ps) 0 s.preds in
+    record {
+      taken = refl;
+      answer = λ w world. answers x w h.meets;
+      same_sig = refl;
+      as_many = λ adds. long;
+      one_more = omega (arith, long);
+      falls = λ reduces. lessens x s ps h;
+    }
+  where
+    answers : (y : Slice) (w : List WorldEntry) → condition y s.clauses (set_of ps) ≡ true → DerivesFalse s w ↔ DerivesFalse (sliced y s ps) w
+    answers Slice.forward w meets = unreached_same s (set_of ps) meets w
+    answers Slice.backward w meets = unneeded_same s (set_of ps) meets w
+
+pub uses_live-sliced : (x : Slice) (s : StateView) (ps : List ℕ) → CanGo x s ps → uses_live s.preds s.clauses ≡ true → uses_live (sliced x s ps).preds (sliced x s ps).clauses ≡ true
+uses_live-sliced Slice.forward s ps h live =
     uses_live-without (set_of ps) s.preds s.clauses (filter (λ c. not (body_meets (set_of ps) c)) s.clauses) live (unreached_out s.clauses (set_of ps) h.meets)
-uses_live-after s (step.Unneeded ps) h live =
+uses_live-sliced Slice.backward s ps h live =
     uses_live-without (set_of ps) s.preds s.clauses (filter (λ c. not (head_meets (set_of ps) c)) s.clauses) live (unneeded_out s.clauses (set_of ps) h.meets)
 
 -- predicates keep the sorts of their positions
@@ -206,9 +225,8 @@ positions-retired_all : (set : PredSet) (n : ℕ) (ds : List PredDecl) → posit
 positions-retired_all set n [] = refl
 positions-retired_all set n (d ∷ ds) = ap (λ sorts. d.sorts ∷ sorts) (positions-retired_all set (n + 1) ds)
 
-pub positions-after : (s : StateView) (x : Step) → positions (after s x).preds ≡ positions s.preds
-positions-after s (step.Unreached ps) = positions-retired_all (set_of ps) 0 s.preds
-positions-after s (step.Unneeded ps) = positions-retired_all (set_of ps) 0 s.preds
+pub positions-sliced : (x : Slice) (s : StateView) (ps : List ℕ) → positions (sliced x s ps).preds ≡ positions s.preds
+positions-sliced x s ps = positions-retired_all (set_of ps) 0 s.preds
 
 -- fewer clauses pass a test over the same positions still
 module _ (test : Signature → List (List Sort) → Clause → Bool) where
@@ -223,14 +241,10 @@ module _ (test : Signature → List (List Sort) → Clause → Bool) where
       (all-from (test s.sig (positions s.preds)) (filter keep s.clauses) (λ c i.
       all-at (test s.sig (positions s.preds)) c s.clauses was.1 (In-filtered keep c s.clauses i)))
 
-pub are_sorted-after : (s : StateView) (x : Step) → are_sorted s.sig s.preds s.clauses ≡ true → are_sorted (after s x).sig (after s x).preds (after s x).clauses ≡ true
-are_sorted-after s (step.Unreached ps) sorted =
-    fewer_pass is_sorted_clause s (retired (set_of ps) 0 s.preds) (λ c. not (body_meets (set_of ps) c)) (positions-retired_all (set_of ps) 0 s.preds) sorted
-are_sorted-after s (step.Unneeded ps) sorted =
-    fewer_pass is_sorted_clause s (retired (set_of ps) 0 s.preds) (λ c. not (head_meets (set_of ps) c)) (positions-retired_all (set_of ps) 0 s.preds) sorted
+pub are_sorted-sliced : (x : Slice) (s : StateView) (ps : List ℕ) → are_sorted s.sig s.preds s.clauses ≡ true → are_sorted s.sig (sliced x s ps).preds (sliced x s ps).clauses ≡ true
+are_sorted-sliced x s ps sorted =
+    fewer_pass is_sorted_clause s (retired (set_of ps) 0 s.preds) (λ c. not (goes x (set_of ps) c)) (positions-retired_all (set_of ps) 0 s.preds) sorted
 
-pub are_formed-after : (s : StateView) (x : Step) → are_well_formed s.sig s.preds s.clauses ≡ true → are_well_formed (after s x).sig (after s x).preds (after s x).clauses ≡ true
-are_formed-after s (step.Unreached ps) formed =
-    fewer_pass is_well_formed s (retired (set_of ps) 0 s.preds) (λ c. not (body_meets (set_of ps) c)) (positions-retired_all (set_of ps) 0 s.preds) formed
-are_formed-after s (step.Unneeded ps) formed =
-    fewer_pass is_well_formed s (retired (set_of ps) 0 s.preds) (λ c. not (head_meets (set_of ps) c)) (positions-retired_all (set_of ps) 0 s.preds) formed
+pub are_formed-sliced : (x : Slice) (s : StateView) (ps : List ℕ) → are_well_formed s.sig s.preds s.clauses ≡ true → are_well_formed s.sig (sliced x s ps).preds (sliced x s ps).clauses ≡ true
+are_formed-sliced x s ps formed =
+    fewer_pass is_well_formed s (retired (set_of ps) 0 s.preds) (λ c. not (goes x (set_of ps) c)) (positions-retired_all (set_of ps) 0 s.preds) formed

@@ -2,7 +2,7 @@
 use Rattle.std.proofs.Common.{◌≡◌, ℕ, ◌+◌, ◌<◌, Bool, not, ◌&&◌, List, [], ◌∷◌, ◌++◌, length, take, drop, get_or, set, sym, ap, ◌∙◌, arith, append_assoc, add-zero}
 use Rattle.std.proofs.lemmas.List.{drop_more, take_more, set_at, get_or_at, length-take-le}
 use Rattle.chc_state.specs.declared.clause.PredDecl.{PredDecl}
-use Rattle.chc_state.specs.Steps.{PredSet, retired}
+use Rattle.chc_state.specs.PredSets.{PredSet, retired}
 use Rattle.chc_state.proofs.Retired.{length-retired}
 
 -- the predicate of number n, no longer live if it is in the set

@@ -5,10 +5,9 @@ use Rattle.std.specs.List.{filter}
 use Rattle.chc_sorts.specs.Signature.{Signature}
 use Rattle.chc_state.specs.declared.clause.Clause.{Clause}
 use Rattle.chc_state.specs.declared.clause.PredDecl.{PredDecl}
-use Rattle.chc_state.specs.declared.step.Step.{Step}
-use Rattle.chc_state.specs.declared.step.Step.TheVariants as step
+use Rattle.pass_slice.specs.Slices.{Slice, without, sliced}
 use Rattle.chc_state.specs.States.{StateView}
-use Rattle.chc_state.specs.Steps.{PredSet, set_of, retired, without, after}
+use Rattle.chc_state.specs.PredSets.{PredSet, set_of, retired}
 use Rattle.pass_slice.specs.Tables.{marked}
 use Rattle.chc_state.proofs.Retired.{length-retired}
 
@@ -44,6 +43,5 @@ left_is gone s ps z h =
     (h.clauses ∙ ap (λ (f : PredSet). filter (λ c. not (gone f c)) h.was.clauses) (same_set ps h.table h.clauses_table h.same h.one)
     ∙ ap (λ (v : StateView). filter (λ c. not (gone (set_of ps) c)) v.clauses) h.parts)
 
-pub length-after : (s : StateView) (x : Step) → length (after s x).preds ≡ length s.preds
-length-after s (step.Unreached ps) = length-retired (set_of ps) 0 s.preds
-length-after s (step.Unneeded ps) = length-retired (set_of ps) 0 s.preds
+pub length-sliced : (x : Slice) (s : StateView) (ps : List ℕ) → length (sliced x s ps).preds ≡ length s.preds
+length-sliced x s ps = length-retired (set_of ps) 0 s.preds

@@ -4,7 +4,8 @@ use Rattle.std.specs.List.{list_any}
 use Rattle.chc_state.specs.declared.clause.Atom.{Atom}
 use Rattle.chc_state.specs.declared.clause.Clause.{Clause}
 use Rattle.chc_state.specs.States.{StateView, is_live}
-use Rattle.chc_state.specs.Steps.{PredSet, Meets, body_meets, head_meets}
+use Rattle.chc_state.specs.PredSets.{PredSet}
+use Rattle.pass_slice.specs.Slices.{Meets, body_meets, head_meets}
 
 -- the set of the marked places
 abbrev pub marked : List Bool → PredSet

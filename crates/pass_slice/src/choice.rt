@@ -3,7 +3,7 @@
 ghost use Rattle.std.specs.Prelude.{◌≡◌};
 ghost use Rattle.std.specs.List.{list_all};
 ghost use Rattle.chc_state.specs.States.{is_live};
-ghost use Rattle.chc_state.specs.Steps.{is_ascending};
+ghost use Rattle.chc_state.specs.PredSets.{is_ascending};
 ghost use Rattle.pass_slice.specs.Choices.{is_choice};
 
 use chc_sorts::List;

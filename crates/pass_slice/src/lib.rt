@@ -3,10 +3,15 @@
 //! the queries). The answer stays the same.
 #![tactic(auto)]
 
-mod back;
 mod choice;
+mod kinds;
 mod sets;
+mod sliced;
 #[cfg(test)]
 mod tests;
-pub mod unneeded;
-pub mod unreached;
+mod unneeded;
+mod unreached;
+mod void;
+
+pub use kinds::{Unneeded, Unreached, Void};
+pub use sliced::{Removed, Sliced};

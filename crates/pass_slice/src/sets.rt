@@ -4,7 +4,8 @@ ghost use Rattle.std.specs.Prelude.{◌≡◌, ℕ, ◌+◌, ◌^◌, ◌<◌, I
 ghost use Rattle.std.specs.List.{list_all};
 ghost use Rattle.chc_state.specs.declared.clause.PredDecl.{PredDecl};
 ghost use Rattle.chc_state.specs.States.{is_live};
-ghost use Rattle.chc_state.specs.Steps.{set_of, body_meets, head_meets, retired};
+ghost use Rattle.chc_state.specs.PredSets.{set_of, retired};
+ghost use Rattle.pass_slice.specs.Slices.{body_meets, head_meets};
 ghost use Rattle.pass_slice.specs.Tables.{marked, places};
 
 use chc_sorts::{List, NoMemory};
@@ -101,7 +102,7 @@ pub(crate) fn some_numbers(alloc: Global, table: &[bool]) -> Result<Option<List<
 }
 
 /// Adds `p` at the end if `wanted`.
-fn push_if(wanted: bool, ps: &mut List<u32>, p: u32) -> Result<(), NoMemory>
+pub(crate) fn push_if(wanted: bool, ps: &mut List<u32>, p: u32) -> Result<(), NoMemory>
     ensures { IfOk result (λ _. ps.new ≡ cond wanted (ps.old ++ p ∷ []) ps.old) }
 {
     if wanted {

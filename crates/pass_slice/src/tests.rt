@@ -1,11 +1,12 @@
 //! Small states, with what is found in them and what is left.
 
-ghost use Rattle.std.specs.Prelude.{◌≡◌, Option, nat_lt};
+ghost use Rattle.std.specs.Prelude.{◌≡◌, nat_lt};
 ghost use Rattle.std.specs.List.{list_all};
 
-use crate::{unneeded, unreached};
+use crate::sliced::{Removed, number_of as number_before, removed_preds, with_constants};
+use crate::{Unneeded, Unreached, Void};
 use chc_sorts::{List, NoMemory, Sig, Sort};
-use chc_state::{Atom, Clause, Def, Defs, PredDecl, State, positions_fit};
+use chc_state::{Atom, Clause, Def, Defs, Pass, PredDecl, State, positions_fit};
 use chc_terms::Term;
 use std::alloc::Global;
 use std::test::Fail;
@@ -131,10 +132,10 @@ struct Outcome {
 
 /// What is found unreached in a state, and what is left.
 fn without_unreached(alloc: Global, s: State) -> Result<Outcome, NoMemory> {
-    let found = unreached::find(alloc, &s)?;
+    let found = Unreached::find(alloc, &s)?;
     let digits = digits(&found);
     let left = match found {
-        Some(ps) => unreached::apply(alloc, s, &ps)?,
+        Some(ps) => Unreached::apply(alloc, s, &ps)?.0,
         None => s,
     };
     Ok(Outcome { digits, left })
@@ -142,10 +143,10 @@ fn without_unreached(alloc: Global, s: State) -> Result<Outcome, NoMemory> {
 
 /// What is found unneeded in a state, and what is left.
 fn without_unneeded(alloc: Global, s: State) -> Result<Outcome, NoMemory> {
-    let found = unneeded::find(alloc, &s)?;
+    let found = Unneeded::find(alloc, &s)?;
     let digits = digits(&found);
     let left = match found {
-        Some(ps) => unneeded::apply(alloc, s, &ps)?,
+        Some(ps) => Unneeded::apply(alloc, s, &ps)?.0,
         None => s,
     };
     Ok(Outcome { digits, left })
@@ -252,8 +253,8 @@ fn chained(alloc: Global) -> Result<Option<State>, NoMemory> {
 /// Whether the kind of step finds nothing in the state.
 fn finds_nothing(alloc: Global, kind: Kind, s: &State) -> Result<bool, NoMemory> {
     match kind {
-        Kind::Unreached => Ok(unreached::find(alloc, s)?.is_none()),
-        Kind::Unneeded => Ok(unneeded::find(alloc, s)?.is_none()),
+        Kind::Unreached => Ok(Unreached::find(alloc, s)?.is_none()),
+        Kind::Unneeded => Ok(Unneeded::find(alloc, s)?.is_none()),
     }
 }
 
@@ -293,8 +294,8 @@ fn numbers_of(alloc: Global, letters: &[u8]) -> Result<List<u32>, NoMemory> {
 /// Whether the step of the kind on the numbers is legal in the state.
 fn is_legal(alloc: Global, kind: Kind, s: &State, ps: &List<u32>) -> Result<bool, NoMemory> {
     match kind {
-        Kind::Unreached => unreached::legal(alloc, s, ps),
-        Kind::Unneeded => unneeded::legal(alloc, s, ps),
+        Kind::Unreached => Unreached::legal(alloc, s, ps),
+        Kind::Unneeded => Unneeded::legal(alloc, s, ps),
     }
 }
 
@@ -375,12 +376,12 @@ fn great_numbers_and_circles_are_legal_or_not(rt: HostRuntime) -> Result<(), Fai
 
 /// The state after the step that removes unneeded predicates, if it is legal.
 fn after_unneeded(alloc: Global, s: State, ps: &List<u32>) -> Result<Option<State>, NoMemory> {
-    let legal = unneeded::legal(alloc, &s, ps)?;
+    let legal = Unneeded::legal(alloc, &s, ps)?;
     if !legal {
         return Ok(None);
     }
-    let s = unneeded::apply(alloc, s, ps)?;
-    Ok(Some(s))
+    let (left, _undo) = Unneeded::apply(alloc, s, ps)?;
+    Ok(Some(left))
 }
 
 /// The state of `SLICED` without b, if its removal is legal.
@@ -513,42 +514,48 @@ fn pairs(alloc: Global) -> Result<List<PredDecl>, NoMemory> {
     Ok(preds)
 }
 
-/// Whether the numbers are all below the count.
-fn are_below(numbers: &List<u32>, count: usize) -> bool
-    ensures { result ≡ list_all (λ p. nat_lt p count) numbers.now }
-{
-    numbers.as_slice().iter().all(|p| (*p as usize) < count)
+/// The state of those predicates, without clauses, if it is one.
+fn of_pairs(alloc: Global) -> Result<Option<State>, NoMemory> {
+    let preds = pairs(alloc)?;
+    Ok(state(alloc, preds, List::new(alloc)))
 }
 
-/// The definitions before the step of the kind that removed these predicates, if all of them have a place.
-fn back_over(
+/// The definitions before a slice that removed a and d, where removed predicates have that truth value.
+fn before_slice(alloc: Global, truth: bool) -> Result<Option<Defs>, NoMemory> {
+    let ps = numbers_of(alloc, b"ad")?;
+    let defined = one_defined(alloc)?;
+    match of_pairs(alloc)? {
+        Some(s) => with_removed(alloc, truth, &s, &ps, defined),
+        None => Ok(None),
+    }
+}
+
+/// The definitions with a constant for each of these predicates of the state, if all of them have a place.
+fn with_removed(
     alloc: Global,
-    kind: Kind,
-    preds: &List<PredDecl>,
+    truth: bool,
+    s: &State,
     ps: &List<u32>,
     d: Defs,
 ) -> Result<Option<Defs>, NoMemory> {
-    if !are_below(ps, d.of.len()) {
+    let removed = removed_preds(alloc, s, ps.as_slice())?;
+    if !are_below(&removed, d.of.len()) {
         return Ok(None);
     }
-    let before = match kind {
-        Kind::Unreached => unreached::back_defs(alloc, preds, ps, d)?,
-        Kind::Unneeded => unneeded::back_defs(alloc, preds, ps, d)?,
-    };
+    let before = with_constants(alloc, truth, removed.as_slice(), d)?;
     Ok(Some(before))
 }
 
-/// The definitions before the step of the kind that removed a and d.
-fn before_step(alloc: Global, kind: Kind) -> Result<Option<Defs>, NoMemory> {
-    let preds = pairs(alloc)?;
-    let ps = numbers_of(alloc, b"ad")?;
-    let defined = one_defined(alloc)?;
-    back_over(alloc, kind, &preds, &ps, defined)
+/// Whether the predicates' numbers are all below the count.
+fn are_below(removed: &List<Removed>, count: usize) -> bool
+    ensures { result ≡ list_all (λ x. nat_lt x.pred count) removed.now }
+{
+    removed.as_slice().iter().all(|x| (x.pred as usize) < count)
 }
 
-/// Whether a and d are constants of that truth value before the step of the kind that removed them.
-fn are_constants_before(alloc: Global, kind: Kind, truth: bool) -> Result<bool, NoMemory> {
-    match before_step(alloc, kind)? {
+/// Whether a and d are constants of that truth value before the slice that removed them.
+fn are_constants_before(alloc: Global, truth: bool) -> Result<bool, NoMemory> {
+    match before_slice(alloc, truth)? {
         Some(d) => Ok(are_constants(&d, truth)),
         None => Ok(false),
     }
@@ -556,7 +563,82 @@ fn are_constants_before(alloc: Global, kind: Kind, truth: bool) -> Result<bool, 
 
 #[test]
 fn removed_predicates_are_constants(rt: HostRuntime) -> Result<(), Fail> {
-    assert!(rt; are_constants_before(rt.alloc(), Kind::Unreached, false)?);
-    assert!(rt; are_constants_before(rt.alloc(), Kind::Unneeded, true)?);
+    assert!(rt; are_constants_before(rt.alloc(), false)?);
+    assert!(rt; are_constants_before(rt.alloc(), true)?);
+    Ok(())
+}
+
+/// The clauses of the text, the one of that number with the conjunct `false`.
+fn contradicted(alloc: Global, text: &[u8], at: usize) -> Result<List<Clause>, NoMemory> {
+    let mut items = clauses(alloc, text)?.into_vec();
+    if at < items.len() {
+        items[at].conj.push(Term::Lit(false))?;
+    }
+    Ok(List::from_vec(items))
+}
+
+/// The state of four predicates and these clauses, if it is one.
+fn state_of(alloc: Global, clauses: List<Clause>) -> Result<Option<State>, NoMemory> {
+    let preds = decls(alloc, 4)?;
+    Ok(state(alloc, preds, clauses))
+}
+
+/// The number of the first clause that concludes nothing new, and how many clauses are left without it.
+fn voided(alloc: Global, s: State) -> Result<(Option<u32>, usize), NoMemory> {
+    let found = Void::find(alloc, &s)?;
+    let left = match found {
+        Some(k) => Void::apply(alloc, s, &k)?.0,
+        None => s,
+    };
+    Ok((found, count_clauses(&left)))
+}
+
+/// The same of these clauses over four predicates, if they are a state.
+fn voided_in(
+    alloc: Global,
+    clauses: List<Clause>,
+) -> Result<Option<(Option<u32>, usize)>, NoMemory> {
+    match state_of(alloc, clauses)? {
+        Some(s) => Ok(Some(voided(alloc, s)?)),
+        None => Ok(None),
+    }
+}
+
+#[test]
+fn void_clauses_go(rt: HostRuntime) -> Result<(), Fail> {
+    let alloc = rt.alloc();
+    let repeated = clauses(alloc, b"a ba cbc ccc -c")?;
+    assert_eq!(rt; voided_in(alloc, repeated)?, Some((Some(2), 4)));
+    let false_query = contradicted(alloc, b"a ba -a", 2)?;
+    assert_eq!(rt; voided_in(alloc, false_query)?, Some((Some(2), 2)));
+    let none = clauses(alloc, b"a ba cb -c")?;
+    assert_eq!(rt; voided_in(alloc, none)?, Some((None, 4)));
+    Ok(())
+}
+
+/// Whether the clause of that number may be removed from the state of the text, if that is one.
+fn void_legal(alloc: Global, text: &[u8], k: u32) -> Result<Option<bool>, NoMemory> {
+    match small(alloc, text)? {
+        Some(s) => Ok(Some(Void::legal(alloc, &s, &k)?)),
+        None => Ok(None),
+    }
+}
+
+#[test]
+fn void_choices_are_legal_or_not(rt: HostRuntime) -> Result<(), Fail> {
+    let alloc = rt.alloc();
+    assert_eq!(rt; void_legal(alloc, b"aba bb -a", 0)?, Some(true));
+    assert_eq!(rt; void_legal(alloc, b"aba bb -a", 1)?, Some(true));
+    assert_eq!(rt; void_legal(alloc, b"aba bb -a", 2)?, Some(false));
+    assert_eq!(rt; void_legal(alloc, b"aba bb -a", 3)?, Some(false));
+    Ok(())
+}
+
+#[test]
+fn clause_numbers_are_turned_back(rt: HostRuntime) -> Result<(), Fail> {
+    assert_eq!(rt; number_before(&[1, 2, 5], 0), 0);
+    assert_eq!(rt; number_before(&[1, 2, 5], 1), 3);
+    assert_eq!(rt; number_before(&[1, 2, 5], 2), 4);
+    assert_eq!(rt; number_before(&[1, 2, 5], 3), 6);
     Ok(())
 }

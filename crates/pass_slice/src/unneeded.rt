@@ -1,25 +1,27 @@
 //! Predicates that no query needs.
 
-ghost use Rattle.std.specs.Prelude.{◌≡◌, ◌↔◌, None, true, false, not, ◌||◌, IsTrue, IfOk, IfErr, MatchOption, filter, nat_eq, nat_lt, length};
+ghost use Rattle.std.specs.Prelude.{◌≡◌, ◌↔◌, ℕ, true, false, None, true, false, not, ◌||◌, IsTrue, IfOk, IfErr, MatchOption, filter, nat_eq};
 ghost use Rattle.std.specs.List.{list_all, list_any};
 ghost use Rattle.chc_state.specs.declared.clause.Atom.{Atom};
-ghost use Rattle.chc_state.specs.Sorts.{positions};
 ghost use Rattle.chc_state.specs.Limits.{first_passed};
-ghost use Rattle.chc_state.specs.Back.{back, StepLeadsBack};
-ghost use Rattle.chc_state.specs.Steps.{IsLegal, Applies, Finds, is_unneeded, body_meets, head_meets};
-ghost use Rattle.chc_state.specs.declared.step.Step.TheVariants as step;
+ghost use Rattle.chc_state.specs.PredSets.{set_of};
+ghost use Rattle.chc_state.specs.Refuting.{numbers_where};
+ghost use Rattle.chc_state.specs.Passes.{Applies};
+ghost use Rattle.pass_slice.specs.Slices.{CanGo, Greatest, sliced, is_unneeded, body_meets, head_meets, Slice};
+ghost use Rattle.pass_slice.specs.Undos.{Stands};
 ghost use Rattle.pass_slice.specs.Tables.{marked, Bounds, Needs, Strikes, AtPlace};
 
-use crate::{back, choice, sets};
+use crate::sliced::{self, Sliced};
+use crate::{choice, sets};
 use chc_sorts::{List, NoMemory};
-use chc_state::{Atom, Clause, Defs, PredDecl, State};
+use chc_state::{Atom, Clause, State};
 use std::alloc::Global;
 
 /// The greatest set of live predicates that no query, and no clause that concludes a predicate outside
 /// the set, has in its body, ascending; false is derived without them. `None` where only the empty set
 /// is such. Refuses only for want of memory.
-pub fn find(alloc: Global, s: &State) -> Result<Option<List<u32>>, NoMemory>
-    ensures { IfOk result (Finds is_unneeded step.Unneeded s.now) }
+pub(crate) fn find(alloc: Global, s: &State) -> Result<Option<List<u32>>, NoMemory>
+    ensures { IfOk result (Greatest Slice.backward s.now) }
 {
     let mut table = sets::live_table(alloc, s)?;
     spread(alloc, s, &mut table)?;
@@ -139,7 +141,7 @@ fn first_marked(table: &[bool], atoms: &[Atom]) -> Option<u32>
 fn chosen(alloc: Global, s: &State, table: &[bool]) -> Result<Option<List<u32>>, NoMemory>
     requires bounds { Bounds is_unneeded s.now table.now }
     requires settled { IsTrue (is_unneeded s.now.clauses (marked table.now)) }
-    ensures { IfOk result (Finds is_unneeded step.Unneeded s.now) }
+    ensures { IfOk result (Greatest Slice.backward s.now) }
 {
     // A state has fewer than 2^32 predicates, and is within the limits.
     let (_preds, _clauses) = (s.preds(), s.clauses());
@@ -158,20 +160,65 @@ fn concluders_of(alloc: Global, s: &State) -> Result<Vec<Vec<usize>>, NoMemory> 
     Ok(concluders)
 }
 
-/// The state without these predicates and without the clauses that conclude one of them. It answers as
-/// before. Where memory is refused, the state comes back.
-pub fn apply(alloc: Global, s: State, ps: &List<u32>) -> Result<State, (State, NoMemory)>
-    requires { IsLegal s (step.Unneeded ps.now) }
-    ensures applied { IfOk result (λ z. Applies s (step.Unneeded ps.now) z) }
-    ensures back { IfErr result (λ e. e.0 ≡ s) }
+/// The state without these predicates and without the clauses that conclude one of them, and its undo. Where memory is
+/// refused, the state comes back.
+pub(crate) fn apply(
+    alloc: Global,
+    s: State,
+    ps: &List<u32>,
+) -> Result<(State, Sliced), (State, NoMemory)>
+    requires { CanGo Slice.backward s ps.now }
+    ensures applied { IfOk result (λ done. Applies (sliced Slice.backward) (λ _. true) (λ _. false) s ps.now done.0) }
+    ensures stands { IfOk result (λ done. Stands Slice.backward done.1 s ps.now) }
+    ensures unchanged { IfErr result (λ refused. refused.0 ≡ s) }
 {
-    let table = match sets::table_for(alloc, &s, ps) {
-        Ok(table) => table,
+    let prepared = match prepare(alloc, &s, ps) {
+        Ok(prepared) => prepared,
         Err(refused) => return Err((s, refused)),
     };
     let (sig, preds, clauses) = s.into_parts();
-    let clauses = without_concluders(&table, clauses);
-    Ok(State::of_parts(sig, sets::retire(&table, preds), clauses))
+    let clauses = without_concluders(&prepared.table, clauses);
+    let left = State::of_parts(sig, sets::retire(&prepared.table, preds), clauses);
+    Ok((left, prepared.undo))
+}
+
+/// A table of predicates, and the undo of removing them.
+#[derive(Drop)]
+struct Prepared {
+    table: Vec<bool>,
+    undo: Sliced,
+}
+
+/// The table of these predicates, and the undo of removing them.
+fn prepare(alloc: Global, s: &State, ps: &List<u32>) -> Result<Prepared, NoMemory>
+    requires { CanGo Slice.backward s.now ps.now }
+    ensures table { IfOk result (λ p. (q : ℕ) → marked p.table.items q ≡ set_of ps.now q) }
+    ensures stands { IfOk result (λ p. Stands Slice.backward p.undo s.now ps.now) }
+{
+    let table = sets::table_for(alloc, s, ps)?;
+    let clauses = concluders(alloc, s, &table)?;
+    let removed = sliced::removed_preds(alloc, s, ps.as_slice())?;
+    s.kept();
+    Ok(Prepared {
+        table,
+        undo: Sliced { removed, clauses },
+    })
+}
+
+/// The numbers of the clauses that conclude a marked predicate.
+fn concluders(alloc: Global, s: &State, table: &[bool]) -> Result<List<u32>, NoMemory>
+    ensures { IfOk result (λ ks. ks ≡ numbers_where (head_meets (marked table.now)) 0 s.now.clauses) }
+{
+    let mut numbers = List::new(alloc);
+    let clauses = s.clauses().as_slice();
+    for k in 0..clauses.len() {
+        sets::push_if(
+            sets::head_is_marked(table, &clauses[k]),
+            &mut numbers,
+            k as u32,
+        )?;
+    }
+    Ok(numbers)
 }
 
 /// The clauses that conclude no marked predicate, in order.
@@ -186,8 +233,8 @@ fn without_concluders(table: &[bool], clauses: List<Clause>) -> List<Clause>
 /// Whether the step on these numbers may be taken: there are some, each above the one before it, all of live
 /// predicates, and no query, and no clause that concludes another predicate, has one of them in its body. Any
 /// numbers may be asked of, in time linear in the state and the numbers. Refuses only for want of memory.
-pub fn legal(alloc: Global, s: &State, ps: &List<u32>) -> Result<bool, NoMemory>
-    ensures { IfOk result (λ b. IsTrue b ↔ IsLegal s.now (step.Unneeded ps.now)) }
+pub(crate) fn legal(alloc: Global, s: &State, ps: &List<u32>) -> Result<bool, NoMemory>
+    ensures { IfOk result (λ b. IsTrue b ↔ CanGo Slice.backward s.now ps.now) }
 {
     if !choice::can_go(s, ps) {
         return Ok(false);
@@ -203,22 +250,4 @@ fn is_met(table: &[bool], s: &State) -> bool
 {
     s.clauses().as_slice().iter().all(|c| sets::head_is_marked(table, c)
         || !sets::body_is_marked(table, c))
-}
-
-/// The definitions before a step that removed these predicates, from definitions after it: each of them is
-/// true on all arguments. `preds` are the predicates that were declared before the step. Where the step was legal,
-/// the clauses before it are true in every world in which those after it were. Refuses only for want of
-/// memory.
-pub fn back_defs(
-    alloc: Global,
-    preds: &List<PredDecl>,
-    ps: &List<u32>,
-    d: Defs,
-) -> Result<Defs, NoMemory>
-    requires within { IsTrue (list_all (λ p. nat_lt p (length d.of)) ps.now) }
-    ensures value { IfOk result (λ e. e ≡ back (positions preds.now) (step.Unneeded ps.now) d) }
-    ensures leads { IfOk result (StepLeadsBack (positions preds.now) (step.Unneeded ps.now) d) }
-{
-    let defs = back::with_constants(alloc, true, preds, ps.as_slice(), d)?;
-    Ok(defs)
 }

@@ -14,11 +14,11 @@ use Rattle.chc_terms.specs.declared.term.Term.{Term}
 use Rattle.chc_terms.specs.declared.term.Term.TheVariants as term
 use Rattle.chc_terms.specs.Counts.{depth, depth_all, greatest}
 use Rattle.chc_terms.specs.Numbers.{numbers_fit}
-use Rattle.chc_terms.specs.Sorted.{Context, sort_of, sorts_of, sorts_fit, is_plain}
+use Rattle.chc_terms.specs.Sorted.{Context, sort_of, sorts_of, sorts_fit, is_plain, when}
 use Rattle.chc_terms.proofs.CountLaws.{size-Quant, depth-Pred, depth-Quant}
 use Rattle.chc_terms.proofs.NumberLaws.{numbers_fit-Lit}
-use Rattle.chc_terms.proofs.SameSort.{same_from_test, same_sorts_from_test}
-use Rattle.chc_terms.proofs.SortLaws.{is_plain-Lit, sort_of-Lit, sorts_fit-Lit}
+use Rattle.chc_terms.proofs.SameSort.{same_from_test, same_sorts_from_test, same_sorts_itself}
+use Rattle.chc_terms.proofs.SortLaws.{sort_of-Lit, sorts_fit-Lit}
 use Rattle.chc_elab.specs.declared.symbols.Symbol.TheVariants as symbol
 use Rattle.chc_elab.specs.Binders.{outer_site}
 use Rattle.chc_elab.specs.Sites.{Site, Setting, ◌>>>◌}
@@ -39,20 +39,21 @@ use Rattle.chc_print.specs.Texts.{Names, name_at, term_text, term_texts}
 use Rattle.read_again.specs.ClauseCounts.{IsReadable}
 use Rattle.read_again.specs.ClauseTerms.{atom_term, head_term, part_terms, matrix_term, closed_term, assertion_of, clause_again}
 use Rattle.read_again.specs.LivePredicates.{number_again, renumbered_atom, renumbered}
-use Rattle.read_again.specs.Terms.{AreNamedFor, CanBeWritten, CanAllBeWritten, numbered_site}
+use Rattle.term_again.specs.Naming.{AreNamedFor, numbered_site}
+use Rattle.term_again.specs.Terms.{CanBeWritten, CanAllBeWritten, IsTermOver}
 use Rattle.read_again.proofs.ClauseSays.{WellFormed, well_formed, well_formed_is_plain, is_plain_atom, IsPlain, says_plain_clause, all_weaker}
 use Rattle.read_again.proofs.ClausesRun.{IsCondition, Asserts}
 use Rattle.read_again.proofs.Connectives.{truth, AllSmall, first_small, others_small, PartsSmall, parts_small, ReadsAs, EachWrites, matrix_writes}
 use Rattle.read_again.proofs.LiveNumbers.{live_at, named_at}
-use Rattle.read_again.proofs.TermAtoms.{atom_written}
-use Rattle.read_again.proofs.TermBinders.{quantified_written}
-use Rattle.read_again.proofs.TermBounds.{fitting_bound, term_bound, terms_bound}
-use Rattle.read_again.proofs.TermLaws.{text-Lit}
-use Rattle.read_again.proofs.TermPredicates.{predicate_named}
-use Rattle.read_again.proofs.TermReach.{sort_fits_front, can_be_written_front, can_all_be_written_front}
-use Rattle.read_again.proofs.TermTexts.{names_read}
-use Rattle.read_again.proofs.TermTrees.{writes_wider, text_writes}
-use Rattle.read_again.proofs.TermWritten.{IsSmall, read_limits, term_written}
+use Rattle.term_again.proofs.TermBinders.{quantified_written}
+use Rattle.term_again.proofs.TermBounds.{fitting_bound, term_bound, terms_bound}
+use Rattle.term_again.proofs.TermCounts.{plain_binds_none, plain_terms_bind_none}
+use Rattle.term_again.proofs.TermLaws.{text-Lit, bound-Lit}
+use Rattle.term_again.proofs.TermLimits.{IsSmall}
+use Rattle.term_again.proofs.SymbolNames.{symbol_named}
+use Rattle.term_again.proofs.TermReach.{reach-Lit, sort_fits_front}
+use Rattle.term_again.proofs.TermTexts.{names_read, clause_names, read_term_written, read_symbol_written}
+use Rattle.term_again.proofs.TermTrees.{writes_wider, text_writes}
 
 -- ---- what a well-formed clause has
 
@@ -90,7 +91,7 @@ module _ (s : StateView) (names all : List (List ℕ)) (prefix : List ℕ) (sett
   module _ (reach : ℕ) (settled : AreSettled reach) where
     module _ (vars : List Sort) (small : length vars ≤ 2 ^ 64) where
       abbrev cx : Context
-      cx = clause_context setting.sig
+      cx = clause_context s.sig
 
       abbrev site : Site
       site = numbered_site prefix vars
@@ -104,17 +105,14 @@ module _ (s : StateView) (names all : List (List ℕ)) (prefix : List ℕ) (sett
 
       -- ---- atoms
 
-      can_atom : (a : Atom) (d : PredDecl) → is_sorted_atom s.sig (positions s.preds) vars a ≡ true → atom_fits s.sig a ≡ true → slice_get s.preds a.pred ≡ Some d → atom_reach a ≤ reach
-          → CanAllBeWritten cx vars a.args d.sorts
-      can_atom a d sorted fits at low =
+      can_atom : (a : Atom) (d : PredDecl) → is_sorted_atom s.sig (positions s.preds) vars a ≡ true → atom_fits s.sig a ≡ true → slice_get s.preds a.pred ≡ Some d → CanAllBeWritten cx vars a.args d.sorts
+      can_atom a d sorted fits at =
           let given = sorts_of (clause_context s.sig) a.args vars in
           let wanted = slice_get (positions s.preds) a.pred in
           let parts = and_parts (list_all is_plain a.args) (are_sorts given wanted) sorted in
           let is_there : wanted ≡ Some d.sorts = positions-at s.preds a.pred ∙ ap (option_map (λ (e : PredDecl). e.sorts)) at in
           let fit = both_fit a.args s.sig fits in
-          let can : CanAllBeWritten (clause_context s.sig) vars a.args d.sorts = record { plain = parts.0; sorted = both_sorts given wanted d.sorts parts.1 is_there; fitting = fit.0; numbers = fit.1 } in
-          can_all_be_written_front s.sig setting.sig settled.named.more settled.named.front vars a.args d.sorts
-          (settled.near (terms_reach a.args) low (terms_bound s.sig a.args vars d.sorts can.plain can.sorted can.fitting)) can
+          record { sorted = both_sorts given wanted d.sorts parts.1 is_there; fitting = fit.0; numbers = fit.1 }
 
       atom_is_written : (a : Atom) → is_sorted_atom s.sig (positions s.preds) vars a ≡ true → atom_fits s.sig a ≡ true → on_live s.preds a ≡ true → atom_reach a ≤ reach → IsSmall (atom_term (renumbered_atom s.preds a))
           → Written 950 (atom_term (renumbered_atom s.preds a)) (atom_text in_text under a)
@@ -123,14 +121,22 @@ module _ (s : StateView) (names all : List (List ℕ)) (prefix : List ℕ) (sett
           let d = there.0 in
           let k = number_again s.preds a.pred in
           let levels = depth-Pred k a.args in
-          let named = predicate_named s names prefix setting settled.named all settled.of_state settled.called a.pred k d.sorts (name_at all a.pred)
+          let can = can_atom a d sorted fits there.1 in
+          let plain = (and_parts (list_all is_plain a.args) (are_sorts (sorts_of cx a.args vars) (slice_get (positions s.preds) a.pred)) sorted).0 in
+          let bound = plain_terms_bind_none a.args plain in
+          let named = symbol_named s names prefix setting settled.named all settled.of_state settled.called a.pred (symbol.Pred k d.sorts) (name_at all a.pred)
           (named_at all a.pred (let few = there.2 in let enough = settled.enough in omega arith))
           (settled.found a.pred d live there.1) in
           writes_wider (ReadsAs setting site (truth (term.Pred k a.args))) (ReadsAs setting site (truth (term.Pred k a.args))) (depth_all a.args + 18) 950 (let fine = fine.1 in omega arith) (λ t is. is) (atom_text in_text under a)
-          (atom_written in_text setting cx refl settled.named.variables.marks settled.named.variables.form (names_read s names all [] prefix setting settled.named) IsWithin AreFew IsSmall read_limits
-          vars d.sorts k (name_at all a.pred) a.args under named (can_atom a d sorted fits there.1 low) fine small)
+          (read_symbol_written s names all [] prefix setting settled.named cx (clause_names s all [] prefix setting) (symbol.Pred k d.sorts) (name_at all a.pred) named
+          vars a.args d.sorts sort.Bool (ap (λ b. when b sort.Bool) (same_sorts_itself d.sorts)) can
+          (settled.near (terms_reach a.args) low (terms_bound cx a.args vars d.sorts can.sorted can.fitting)) fine (omega (arith, small, bound)))
 
       -- ---- the head
+
+      -- a condition of the clause's terms
+      is_written : (t : Term) → IsTermOver cx setting vars t sort.Bool → IsSmall t → Written (depth t + 17) t (term_text in_text t under)
+      is_written t of_state fine = read_term_written s names all [] prefix setting settled.named cx (clause_names s all [] prefix setting) vars t sort.Bool of_state fine
 
       head_is_written : (head : Option Atom) → head_all (is_sorted_atom s.sig (positions s.preds) vars) head ≡ true → head_all (atom_fits s.sig) head ≡ true → head_all (on_live s.preds) head ≡ true → head_reach head ≤ reach
           → IsSmall (head_term (option_map (renumbered_atom s.preds) head)) → Written 950 (head_term (option_map (renumbered_atom s.preds) head)) (head_text in_text under head)
@@ -138,9 +144,13 @@ module _ (s : StateView) (names all : List (List ℕ)) (prefix : List ℕ) (sett
       head_is_written None sorted fits live low fine =
           writes_wider (ReadsAs setting site (truth (term.Lit false))) (ReadsAs setting site (truth (term.Lit false))) (depth (term.Lit false) + 17) 950 (let fine = fine.1 in omega arith) (λ t is. is) (head_text in_text under None)
           (text_writes (ReadsAs setting site (truth (term.Lit false))) (depth (term.Lit false) + 17) (term_text in_text (term.Lit false) under) (head_text in_text under None) (text-Lit in_text false under)
-          (term_written in_text setting cx refl settled.named.variables.marks settled.named.variables.form (names_read s names all [] prefix setting settled.named) IsWithin AreFew IsSmall read_limits
-          (term.Lit false) vars sort.Bool under
-          (record { plain = is_plain-Lit false; sorted = sort_of-Lit cx false vars; fitting = sorts_fit-Lit setting.sig false; numbers = numbers_fit-Lit false }) fine small))
+          (is_written (term.Lit false)
+          (record {
+            can = record { sorted = sort_of-Lit cx false vars; fitting = sorts_fit-Lit s.sig false; numbers = numbers_fit-Lit false };
+            near = omega (arith, reach-Lit false);
+            few = omega (arith, small, bound-Lit false);
+          })
+          fine))
 
       -- ---- conjuncts
 
@@ -149,12 +159,11 @@ module _ (s : StateView) (names all : List (List ℕ)) (prefix : List ℕ) (sett
           let sorted = sort_of (clause_context s.sig) t vars in
           let parts = and_parts (is_plain t) (is_sort sort.Bool sorted) condition in
           let both = and_parts (sorts_fit s.sig t) (numbers_fit t) fits in
-          let can : CanBeWritten (clause_context s.sig) vars t sort.Bool = record { plain = parts.0; sorted = some_sort sort.Bool sorted parts.1; fitting = both.0; numbers = both.1 } in
+          let can : CanBeWritten cx vars t sort.Bool = record { sorted = some_sort sort.Bool sorted parts.1; fitting = both.0; numbers = both.1 } in
           writes_wider (ReadsAs setting site (truth t)) (ReadsAs setting site (truth t)) (depth t + 17) 950 (let fine = fine.1 in omega arith) (λ t is. is) (term_text in_text t under)
-          (term_written in_text setting cx refl settled.named.variables.marks settled.named.variables.form (names_read s names all [] prefix setting settled.named) IsWithin AreFew IsSmall read_limits
-          t vars sort.Bool under
-          (can_be_written_front s.sig setting.sig settled.named.more settled.named.front vars t sort.Bool
-          (settled.near (term_reach t) low (term_bound s.sig t vars sort.Bool can.plain can.sorted can.fitting)) can) fine small)
+          (is_written t
+          (record { can = can; near = settled.near (term_reach t) low (term_bound cx t vars sort.Bool can.sorted can.fitting); few = omega (arith, small, plain_binds_none t parts.0) })
+          fine)
 
       conditions_are_written : (ts : List Term) → list_all (is_condition s.sig vars) ts ≡ true → list_all (term_fits s.sig) ts ≡ true → terms_reach ts ≤ reach → AllSmall ts
           → EachWrites setting site 950 (map truth ts) (term_texts in_text under ts)
@@ -199,8 +208,8 @@ module _ (s : StateView) (names all : List (List ℕ)) (prefix : List ℕ) (sett
     closed_is_written [] small matrix text fits low fine writes =
         writes_wider (λ tree. IsRead setting (outer_site [] []) tree (truth matrix)) (λ tree. IsRead setting (outer_site [] []) tree (truth matrix)) 952 953 (omega arith) (λ t is. is) text writes
     closed_is_written (x ∷ vars) small matrix text fits low fine writes =
-        quantified_written in_text setting settled.named.variables.marks settled.named.variables.form (names_read s names all [] prefix setting settled.named) IsWithin AreFew
-        x vars matrix 952 text small (variables_fit (x ∷ vars) small (x ∷ vars) fits low) (omega arith) fine writes
+        quantified_written in_text setting settled.named.variables.marks settled.named.variables.form (names_read s names all [] prefix setting settled.named) IsWithin AreFew kind.Forall []
+        x vars matrix 952 text (omega (arith, small)) (variables_fit (x ∷ vars) small (x ∷ vars) fits low) (omega arith) fine writes
 
     -- ---- the whole
 

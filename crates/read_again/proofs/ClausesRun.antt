@@ -32,7 +32,7 @@ use Rattle.chc_script.specs.Asserts.{condition, clause_at, clause_added, asserti
 use Rattle.chc_script.specs.WholeScripts.{command_at}
 use Rattle.chc_print.specs.Texts.{Names}
 use Rattle.chc_print.specs.Script.{matrix_text, closed as closed_text, clause_text}
-use Rattle.read_again.proofs.TermTrees.{Begins, IsNone, writes_wider, last_at, group_writes}
+use Rattle.term_again.proofs.TermTrees.{Begins, IsNone, writes_wider, last_at, group_writes}
 use Rattle.read_again.proofs.TreesInOrder.{first_at}
 use Rattle.read_again.proofs.WrittenSorts.{IsNamed, writes_word}
 use Rattle.read_again.proofs.WrittenGroups.{form_of-Group}

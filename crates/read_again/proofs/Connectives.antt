@@ -27,9 +27,10 @@ use Rattle.chc_elab.specs.Sites.{Site, Setting}
 use Rattle.chc_elab.specs.Stands.{IsNegative, StandAll, IsWithin, AreFew, IsRead}
 use Rattle.chc_elab.specs.Stands as stands
 use Rattle.chc_print.specs.Script.{tail_text, implied}
+use Rattle.term_again.proofs.TermLimits.{IsSmall}
+use Rattle.term_again.proofs.TermTrees.{Begins, IsSymbolOf, writes_wider, text_writes, begin_at, group_writes, bare_writes, spaced_parted}
+use Rattle.term_again.proofs.TermTyped.{typed}
 use Rattle.read_again.specs.ClauseTerms.{implied_term}
-use Rattle.read_again.proofs.TermTrees.{Begins, IsSymbolOf, writes_wider, text_writes, begin_at, group_writes, bare_writes, spaced_parted}
-use Rattle.read_again.proofs.TermWritten.{typed, IsSmall}
 
 -- a term of sort Bool
 abbrev pub truth : Term → Typed

@@ -1,21 +1,17 @@
 -- The names of live predicates can be declared: none is a function's, and none stands twice.
-use Rattle.std.proofs.Common.{◌≡◌, ◌∙◌, sym, ap, refl, subst, ℕ, zero, suc, ◌+◌, ◌≤◌, ◌<◌, Bool, true, false, not, ◌&&◌, List, [], ◌∷◌, ◌++◌, length, map, take, drop, Option, Some, None, slice_get, codes, append_assoc, arith}
+use Rattle.std.proofs.Common.{◌≡◌, ◌∙◌, sym, ap, refl, subst, ℕ, zero, suc, ◌+◌, ◌≤◌, ◌<◌, Bool, true, false, not, ◌&&◌, List, [], ◌∷◌, ◌++◌, length, take, drop, Option, Some, None, slice_get, codes, append_assoc, arith}
 use Rattle.std.specs.Prelude.{if◌then◌else◌}
 use Rattle.std.specs.List.{list_all, flat_map}
 use Rattle.std.specs.Str.{bytes_eq}
 use Rattle.std.proofs.lemmas.Bool.{and_from, or_parts, or_from, false≢true}
 use Rattle.std.proofs.lemmas.List.{map-append, append-nil, length-append}
-use Rattle.std.proofs.lemmas.List.Concat.{flat_map-append}
 use Rattle.std.proofs.lemmas.List.Folds.{list_any-append}
 use Rattle.std.proofs.lemmas.Slice.Eq.{bytes_eq-Decides}
 use Rattle.chc_sorts.specs.declared.data.Data.{Data}
-use Rattle.chc_sorts.specs.declared.data.Ctor.{Ctor}
-use Rattle.chc_sorts.specs.declared.data.Field.{Field}
 use Rattle.chc_sorts.specs.declared.meaning.Meaning.{Meaning}
-use Rattle.chc_sorts.specs.declared.meaning.Meaning.TheVariants as meaning
 use Rattle.chc_sorts.specs.Signature.{Signature}
 use Rattle.chc_sorts.specs.Names.{has_name, each_from}
-use Rattle.chc_sorts.specs.Functions.{functions_of, function_names}
+use Rattle.chc_sorts.specs.Functions.{function_names}
 use Rattle.chc_sorts.specs.Groups.{fixed_functions}
 use Rattle.chc_sorts.specs.Listing.{AreFresh, names_of, rows_of}
 use Rattle.chc_state.specs.declared.clause.PredDecl.{PredDecl}
@@ -25,7 +21,8 @@ use Rattle.chc_print.specs.Texts.{name_at, or_empty}
 use Rattle.chc_print.specs.Prefix.{used_names, ctor_names}
 use Rattle.chc_print.specs.Helpers.{numbered, AreHelpers, NamesPredicates}
 use Rattle.read_again.specs.FirstGroups.{before_group, first_groups}
-use Rattle.read_again.proofs.TermNames.{passes_at}
+use Rattle.term_again.proofs.FunctionNames.{names_of_all_ctors}
+use Rattle.term_again.proofs.TermNames.{passes_at}
 use Rattle.read_again.specs.LivePredicates.{live_names}
 
 -- the names can be declared over the signature: none is a fixed one, a constructor's or a selector's, none stands twice,
@@ -112,24 +109,6 @@ live_spelt all h (d ∷ ds) k = by d.live (named (slice_get all k) refl) (live_s
 
 -- ---- names of functions
 
-field_names : (d c n : ℕ) (fs : List Field) → names_of (each_from (λ i (f : Field). (f.name, meaning.Get d c i) ∷ []) n fs) ≡ map (λ (f : Field). f.name) fs
-field_names d c n [] = refl
-field_names d c n (f ∷ fs) = ap (λ l. f.name ∷ l) (field_names d c (suc n) fs)
-
-names_of_ctors : (d n : ℕ) (ks : List Ctor) → names_of (each_from (functions_of d) n ks) ≡ flat_map ctor_names ks
-names_of_ctors d n [] = refl
-names_of_ctors d n (k ∷ ks) =
-    map-append (λ (row : List ℕ × Meaning). row.0) (functions_of d n k) (each_from (functions_of d) (suc n) ks)
-    ∙ ap (λ l. (k.name ∷ l) ++ names_of (each_from (functions_of d) (suc n) ks)) (field_names d n 0 k.fields)
-    ∙ ap (λ l. ctor_names k ++ l) (names_of_ctors d (suc n) ks)
-
-pub names_of_datas : (n : ℕ) (ts : List Data) → names_of (each_from rows_of n ts) ≡ flat_map ctor_names (flat_map (λ (t : Data). t.ctors) ts)
-names_of_datas n [] = refl
-names_of_datas n (t ∷ ts) =
-    map-append (λ (row : List ℕ × Meaning). row.0) (rows_of n t) (each_from rows_of (suc n) ts)
-    ∙ (λ i. names_of_ctors n 0 t.ctors i ++ names_of_datas (suc n) ts i)
-    ∙ sym (flat_map-append ctor_names t.ctors (flat_map (λ (u : Data). u.ctors) ts))
-
 fewer_rows : (n k : ℕ) (ts : List Data) → IsWithin (names_of (each_from rows_of n (take k ts))) (names_of (each_from rows_of n ts))
 fewer_rows n zero [] name h = refl
 fewer_rows n zero (t ∷ ts) name h = refl
@@ -180,7 +159,7 @@ module _ (s : StateView) (names all : List (List ℕ)) (are : AreNamesOf s names
   helper_free k lacks =
       let goal : List ℕ = numbered (codes "goal!") k in
       let parts = lacks-append names (flat_map ctor_names (flat_map (λ (t : Data). t.ctors) s.sig.datatypes)) goal lacks in
-      let functions = ap (λ l. has_name l goal) (names_of_datas 0 s.sig.datatypes) ∙ parts.1 in
+      let functions = ap (λ l. has_name l goal) (names_of_all_ctors s.sig.datatypes) ∙ parts.1 in
       append-lacks taken names goal (append-lacks fixed_functions (function_names (first_groups s.sig n)) goal (goal_not_fixed k) (first_functions s.sig n goal functions)) parts.0
 
   all_fresh : AreFresh taken all

@@ -9,7 +9,7 @@ use Rattle.chc_script.specs.declared.whole.progress.Progress.{Progress}
 use Rattle.chc_script.specs.declared.whole.progress.Progress.TheVariants as progress
 use Rattle.chc_print.specs.Datatypes.{group_text, groups_text}
 use Rattle.read_again.specs.FirstGroups.{before_group, first_groups, group_at, groups_reached, ComesInGroups}
-use Rattle.read_again.proofs.TermTrees.{writes_wider}
+use Rattle.term_again.proofs.TermTrees.{writes_wider}
 use Rattle.read_again.proofs.WrittenSorts.{AreWritable}
 use Rattle.read_again.proofs.WrittenGroups.{GroupIs, group_line, group_line_ends, group_written, is_writable_data}
 use Rattle.read_again.proofs.GroupsAdded.{total_next, grouped, group_command}

@@ -26,21 +26,17 @@ use Rattle.chc_sorts.specs.WellFounded.{is_data_known, are_fields_known}
 use Rattle.chc_sorts.proofs.KnownLaws.{known_with_group}
 use Rattle.chc_elab.specs.Apart.{are_apart}
 use Rattle.chc_elab.proofs.Locals.{not_true}
-use Rattle.chc_script.proofs.DraftNames.{functions_with}
+use Rattle.term_again.specs.Naming.{AreFresh}
+use Rattle.term_again.proofs.FreshSignatures.{made_is_fresh}
+use Rattle.term_again.proofs.FunctionNames.{functions_with}
+use Rattle.term_again.proofs.TermNames.{passes_at}
 use Rattle.read_again.specs.FirstGroups.{total, before_group, first_groups, group_at, group_again, data_fits, HasOwnNames, ComesInGroups}
-use Rattle.read_again.specs.Terms.{AreFresh}
 use Rattle.read_again.proofs.ReadSorts.{at_map}
 use Rattle.read_again.proofs.GroupsAdded.{first_numbered, first_own, next_datatypes}
-use Rattle.read_again.proofs.TermFresh.{fresh_with_group}
-use Rattle.read_again.proofs.TermNames.{passes_at}
 use Rattle.read_again.proofs.MadeSteps.{IsStep, made_whole, made_step, made_inhabited}
 use Rattle.read_again.proofs.MadeAgain.{IsFree, nothing_against, group_fits, free_again, passed_on}
 
 -- ---- names of its own
-
-fresh_of : (sig : Signature) → IsMade sig → AreFresh sig
-fresh_of _ IsMade.empty = record { sorts_apart = refl; sorts_free = refl; functions_apart = refl; functions_free = refl }
-fresh_of _ (IsMade.more sig group preds before free valued) = fresh_with_group sig group preds free (fresh_of sig before)
 
 same_name : (name other : List ℕ) → name ≡ other → bytes_eq name other ≡ true
 same_name name other e = (bytes_eq-Decides name other).1 e
@@ -210,17 +206,9 @@ nothing : {A : Type 0} (o : Option A) → is_some o ≡ false → o ≡ None
 nothing None e = refl
 nothing (Some x) e = absurd (false≢true (sym e))
 
-pub made_fresh : (sig : Signature) → CanBeMade sig → AreFresh sig
-made_fresh sig can = record {
-  sorts_apart = ∥∥₁_elim can (hlevel props) (λ m. (fresh_of sig m).sorts_apart);
-  sorts_free = ∥∥₁_elim can (hlevel props) (λ m. (fresh_of sig m).sorts_free);
-  functions_apart = ∥∥₁_elim can (hlevel props) (λ m. (fresh_of sig m).functions_apart);
-  functions_free = ∥∥₁_elim can (hlevel props) (λ m. (fresh_of sig m).functions_free);
-}
-
 pub made_comes : (sig : Signature) → CanBeMade sig → ComesInGroups sig
 made_comes sig can =
-    let own = own_of_fresh sig (made_fresh sig can) in
+    let own = own_of_fresh sig (made_is_fresh sig can) in
     record {
       whole = ∥∥₁_elim can (hlevel props) (made_whole sig);
       own = own;

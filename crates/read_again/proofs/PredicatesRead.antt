@@ -35,7 +35,7 @@ use Rattle.chc_print.specs.Texts.{Names, name_at, sort_text}
 use Rattle.chc_print.specs.Script.{declaration_text, declarations_text}
 use Rattle.read_again.specs.FirstGroups.{written_sort, HasOwnNames}
 use Rattle.read_again.specs.LivePredicates.{live_names, live_preds}
-use Rattle.read_again.proofs.TermTrees.{Begins, IsNone, writes_wider, last_at, group_writes}
+use Rattle.term_again.proofs.TermTrees.{Begins, IsNone, writes_wider, last_at, group_writes}
 use Rattle.read_again.proofs.TreesInOrder.{EachIs, first_at, each_joined}
 use Rattle.read_again.proofs.WrittenSorts.{IsNamed, writes_name, writes_word, named_symbol, group_of-Group, SpellsSort, AreWritable, sort_written}
 use Rattle.read_again.proofs.ReadSorts.{AreNumbered, tree_read_again}

@@ -16,8 +16,8 @@ use Rattle.chc_print.specs.Reach.{sort_reach, sorts_reach, decl_reach}
 use Rattle.read_again.specs.FirstGroups.{total, before_group, groups_reached, reached_signature}
 use Rattle.read_again.proofs.GroupsAdded.{total_within}
 use Rattle.read_again.proofs.PredicatesRead.{is_fitting}
-use Rattle.read_again.proofs.TermBounds.{fitting_bound}
-use Rattle.read_again.proofs.TermReach.{sort_fits_front}
+use Rattle.term_again.proofs.TermBounds.{fitting_bound}
+use Rattle.term_again.proofs.TermReach.{sort_fits_front}
 
 -- the groups cover all that is within the reach
 covered : (reach from k : ℕ) (sizes : List ℕ) → k ≤ reach → k ≤ from + total sizes → k ≤ from + total (take (groups_reached reach from sizes) sizes)

@@ -109,7 +109,7 @@ module _ (sig : Signature) where
   pub known-Array : (s : Sort) → is_known (sort.Array s) ≡ is_known s
   known-Array s = ap is_known (sym (sort.rolls-Array s)) ∙ fold-roll-Sort Bool (is_declared_step sig) (Sort-F.Array s)
 
-pub below_of : (d n : ℕ) → nat_lt d n ≡ true → d < n
+below_of : (d n : ℕ) → nat_lt d n ≡ true → d < n
 below_of d n h = grind (arith, nat_tests)
 
 shallow_of : (n : ℕ) → nat_lt n 17 ≡ true → nat_lt 16 n ≡ false

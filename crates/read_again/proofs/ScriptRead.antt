@@ -23,18 +23,19 @@ use Rattle.chc_print.specs.Prefix.{used_names, IsVariablePrefix}
 use Rattle.chc_print.specs.Reach.{clause_reach, state_reach}
 use Rattle.chc_print.specs.Script.{script_names, lines_of_script}
 use Rattle.chc_print.specs.Texts.{Names}
+use Rattle.term_again.specs.Naming.{AreFresh}
+use Rattle.term_again.proofs.FreshSignatures.{made_is_fresh}
 use Rattle.read_again.specs.ClauseCounts.{IsReadable}
 use Rattle.read_again.specs.ClauseTerms.{assertion_of}
 use Rattle.read_again.specs.FirstGroups.{groups_reached, first_groups, ComesInGroups}
 use Rattle.read_again.specs.LivePredicates.{live_preds, live_names, renumbered, clauses_again}
 use Rattle.read_again.specs.PrintedScripts.{IsKept, AreReadable, PrintedIsRead, assertions_again, script_again}
-use Rattle.read_again.specs.Terms.{AreFresh}
 use Rattle.read_again.proofs.ClausesRun.{AllAssert}
 use Rattle.read_again.proofs.ClauseWritten.{AreSettled, clause_asserts}
 use Rattle.read_again.proofs.FreshNames.{CanBeDeclared, enough_names, names_declared}
 use Rattle.read_again.proofs.HelpersSpelt.{helpers_spelt}
 use Rattle.read_again.proofs.LiveNumbers.{live_found}
-use Rattle.read_again.proofs.MadeGroups.{made_comes, made_fresh}
+use Rattle.read_again.proofs.MadeGroups.{made_comes}
 use Rattle.read_again.proofs.ReachedGroups.{behind, reached_front, within_reach, positions_fit_reached}
 use Rattle.read_again.proofs.RenumberedCounts.{renumbered_are_readable, stays_within}
 use Rattle.read_again.proofs.WholeText.{printed_setting, text_says}
@@ -129,7 +130,7 @@ module _ (s : StateView) (names all : List (List ℕ)) (prefix : List ℕ) (kept
       })
 
 well_made : (sig : Signature) → CanBeMade sig → IsWellMade sig
-well_made sig made = record { comes = made_comes sig made; fresh = made_fresh sig made }
+well_made sig made = record { comes = made_comes sig made; fresh = made_is_fresh sig made }
 
 pub printed_is_read : PrintedIsRead
 printed_is_read s names text kept of_state readable is =

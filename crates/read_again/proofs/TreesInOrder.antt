@@ -6,7 +6,7 @@ use Rattle.chc_sexpr.specs.Spelling.{is_gap}
 use Rattle.chc_sexpr.specs.Writing.{spaced, joined}
 use Rattle.chc_sexpr.specs.declared.tree.Tree.{Tree}
 use Rattle.chc_sexpr.proofs.Written.{TreesAt, Writes, is_parted, no_more_at, next_at}
-use Rattle.read_again.proofs.TermTrees.{Begins, begin_at, spaced_parted}
+use Rattle.term_again.proofs.TermTrees.{Begins, begin_at, spaced_parted}
 
 -- trees in order, each of the kind of its own element
 abbrev pub EachIs : {X : Type 0} → (X → Tree → Type 0) → List X → List Tree → Type 0

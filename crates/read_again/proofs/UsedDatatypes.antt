@@ -28,9 +28,9 @@ use Rattle.chc_state.proofs.Valued.{SortedArgs-atom}
 use Rattle.chc_print.specs.Reach.{sort_reach, sorts_reach, term_reach, terms_reach, atom_reach, head_reach, clause_reach, decl_reach, state_reach}
 use Rattle.read_again.specs.FirstGroups.{total, before_group, groups_reached, reached_signature}
 use Rattle.read_again.specs.UsedDatatypes.{sort_datatypes, IsUsed, UsedAreDeclared, LastDeclaredIsUsed}
-use Rattle.read_again.proofs.TermNames.{passes_at}
+use Rattle.term_again.proofs.TermNames.{passes_at}
 use Rattle.read_again.proofs.MadeGroups.{made_comes, made_known}
-use Rattle.read_again.proofs.TermBounds.{declared_bound, fitting_bound, term_bound, terms_bound}
+use Rattle.term_again.proofs.TermBounds.{declared_bound, fitting_bound, term_bound, terms_bound}
 use Rattle.read_again.proofs.ReachedGroups.{within_reach}
 use Rattle.read_again.proofs.ClauseWritten.{both_fit}
 use Rattle.read_again.proofs.UsedReach.{at_most, most_within, sort_reaches, position_within, variable_within, term_within, state_top}
@@ -58,22 +58,22 @@ module _ (sig : Signature) where
   sorts_within : (ss : List Sort) → list_all (sort_fits sig) ss ≡ true → sorts_reach ss ≤ length sig.datatypes
   sorts_within ss fits = most_within sort_reach (length sig.datatypes) ss (λ s there. fitting_bound sig s (all-at (sort_fits sig) s ss fits there))
 
-  args_near : (vars : List Sort) (ts : List Term) (ss : List Sort) → list_all is_plain ts ≡ true → sorts_of (clause_context sig) ts vars ≡ Some ss → list_all (term_fits sig) ts ≡ true
+  args_near : (vars : List Sort) (ts : List Term) (ss : List Sort) → sorts_of (clause_context sig) ts vars ≡ Some ss → list_all (term_fits sig) ts ≡ true
       → terms_reach ts ≤ length sig.datatypes
-  args_near vars ts ss plain h fits = terms_bound sig ts vars ss plain h (both_fit ts sig fits).0
+  args_near vars ts ss h fits = terms_bound (clause_context sig) ts vars ss h (both_fit ts sig fits).0
 
   module _ (preds : List (List Sort)) where
     condition_near : (vars : List Sort) (t : Term) → is_condition sig vars t ≡ true → term_fits sig t ≡ true → term_reach t ≤ length sig.datatypes
     condition_near vars t sorted fits =
         let parts = and_parts (is_plain t) (is_sort sort.Bool (sort_of (clause_context sig) t vars)) sorted in
-        by (sort_of (clause_context sig) t vars) refl parts.0 parts.1
+        by (sort_of (clause_context sig) t vars) refl parts.1
       where
-        by : (o : Option Sort) → sort_of (clause_context sig) t vars ≡ o → is_plain t ≡ true → is_sort sort.Bool (sort_of (clause_context sig) t vars) ≡ true → term_reach t ≤ length sig.datatypes
-        by None e plain is = absurd (false≢true (sym (ap (is_sort sort.Bool) e) ∙ is))
-        by (Some s) e plain is = term_bound sig t vars s plain e (and_parts (sorts_fit sig t) (numbers_fit t) fits).0
+        by : (o : Option Sort) → sort_of (clause_context sig) t vars ≡ o → is_sort sort.Bool (sort_of (clause_context sig) t vars) ≡ true → term_reach t ≤ length sig.datatypes
+        by None e is = absurd (false≢true (sym (ap (is_sort sort.Bool) e) ∙ is))
+        by (Some s) e is = term_bound (clause_context sig) t vars s e (and_parts (sorts_fit sig t) (numbers_fit t) fits).0
 
     atom_near : (vars : List Sort) (a : Atom) → is_sorted_atom sig preds vars a ≡ true → atom_fits sig a ≡ true → atom_reach a ≤ length sig.datatypes
-    atom_near vars a sorted fits = let args = SortedArgs-atom sig preds vars a sorted in args_near vars a.args args.sorts args.plain args.sorted fits
+    atom_near vars a sorted fits = let args = SortedArgs-atom sig preds vars a sorted in args_near vars a.args args.sorts args.sorted fits
 
     head_near : (vars : List Sort) (head : Option Atom) → head_all (is_sorted_atom sig preds vars) head ≡ true → head_all (atom_fits sig) head ≡ true → head_reach head ≤ length sig.datatypes
     head_near vars None sorted fits = omega arith

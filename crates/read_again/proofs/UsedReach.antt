@@ -18,7 +18,7 @@ use Rattle.chc_state.specs.declared.clause.PredDecl.{PredDecl}
 use Rattle.chc_state.specs.Meaning.{In}
 use Rattle.chc_state.specs.States.{StateView}
 use Rattle.chc_print.specs.Reach.{sort_reach_step, sort_reach, sorts_reach, op_reach, term_reach_step, term_reach, terms_reach, atom_reach, head_reach, clause_reach, decl_reach, state_reach}
-use Rattle.read_again.proofs.TermReach.{reach-Data, reach-Array}
+use Rattle.term_again.proofs.TermReach.{reach-Data, reach-Array}
 use Rattle.read_again.specs.UsedDatatypes.{sort_datatypes_step, sort_datatypes, sorts_datatypes, op_datatypes, term_datatypes_step, term_datatypes, head_args, clause_terms, IsUsed}
 
 -- ---- the greatest of what is counted

@@ -31,7 +31,7 @@ use Rattle.chc_print.specs.Reach.{state_reach}
 use Rattle.read_again.specs.FirstGroups.{total, before_group, first_groups, group_at, groups_reached, reached_signature, HasOwnNames, ComesInGroups}
 use Rattle.read_again.specs.LivePredicates.{live_names, live_preds}
 use Rattle.read_again.proofs.ReadSorts.{AreNumbered}
-use Rattle.read_again.proofs.TermTrees.{Begins, IsNone, writes_wider, last_at, group_writes}
+use Rattle.term_again.proofs.TermTrees.{Begins, IsNone, writes_wider, last_at, group_writes}
 use Rattle.read_again.proofs.TreesInOrder.{first_at}
 use Rattle.read_again.proofs.WrittenSorts.{IsNamed, named_symbol, writes_word, AreWritable}
 use Rattle.read_again.proofs.WrittenGroups.{form_of-Group, is_writable_data}

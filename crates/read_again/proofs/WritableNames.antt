@@ -17,7 +17,7 @@ use Rattle.chc_sorts.specs.Listing.{names_of, rows_of}
 use Rattle.chc_state.specs.Names.{is_writable_name, signature_names}
 use Rattle.chc_print.specs.Texts.{data_name, name_of_data}
 use Rattle.read_again.specs.FirstGroups.{before_group, group_at}
-use Rattle.read_again.proofs.TermNames.{passes_at}
+use Rattle.term_again.proofs.TermNames.{passes_at}
 use Rattle.read_again.proofs.WrittenSorts.{AreWritable}
 use Rattle.read_again.proofs.WrittenGroups.{is_writable_ctor, is_writable_data}
 

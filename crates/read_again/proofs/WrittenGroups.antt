@@ -32,7 +32,7 @@ use Rattle.chc_script.specs.Datatypes.{numeral_at, numeral_of, pair_at, pair_of,
 use Rattle.chc_print.specs.Texts.{sort_text}
 use Rattle.chc_print.specs.Datatypes.{field_text, ctor_text, ctors_text, arity_text, group_text}
 use Rattle.read_again.specs.FirstGroups.{ctor_fits, data_fits, written_sort, field_again, ctor_again, data_again, group_again}
-use Rattle.read_again.proofs.TermTrees.{Begins, IsNone, text_writes, last_at, group_writes, spaced_parted}
+use Rattle.term_again.proofs.TermTrees.{Begins, IsNone, text_writes, last_at, group_writes, spaced_parted}
 use Rattle.read_again.proofs.TreesInOrder.{EachIs, first_at, each_spaced, each_joined}
 use Rattle.read_again.proofs.WrittenSorts.{IsNamed, writes_name, writes_word, named_symbol, group_of-Group, SpellsSort, AreWritable, sort_written}
 

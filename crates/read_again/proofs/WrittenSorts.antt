@@ -23,7 +23,7 @@ use Rattle.chc_elab.proofs.SpecLaws.{spec-Symbol, spec-Group}
 use Rattle.chc_state.specs.Names.{is_writable_name}
 use Rattle.chc_print.specs.Texts.{sort_step, sort_text, data_name}
 use Rattle.read_again.specs.FirstGroups.{written_sort, written_step}
-use Rattle.read_again.proofs.TermTrees.{Begins, IsNone, writes_wider, text_writes, last_at, group_writes}
+use Rattle.term_again.proofs.TermTrees.{Begins, IsNone, writes_wider, text_writes, last_at, group_writes}
 use Rattle.read_again.proofs.TreesInOrder.{first_at}
 
 -- ---- names

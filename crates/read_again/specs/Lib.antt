@@ -5,5 +5,5 @@ pub mod ClauseTerms
 pub mod FirstGroups
 pub mod LivePredicates
 pub mod PrintedScripts
-pub mod Terms
+pub mod ReadNames
 pub mod UsedDatatypes

@@ -3,7 +3,7 @@
 ghost use Rattle.read_again.specs.ClauseCounts.{RoomIsEnough};
 ghost use Rattle.read_again.specs.ClauseLaws.{SaysItsClause};
 ghost use Rattle.read_again.specs.PrintedScripts.{PrintedIsRead};
-ghost use Rattle.read_again.specs.Terms.{ReadIsFresh, TermsAreReadAgain, TermsAreSaidAgain};
+ghost use Rattle.read_again.specs.ReadNames.{ReadIsFresh};
 
 /// The text of a state says the state's own script, where the assertion of each clause can be read.
 pub fn printed_scripts_are_read()
@@ -18,16 +18,6 @@ pub fn says_its_clause()
 /// A clause's assertion can be read where the clause's charge and depth leave room for the connectives.
 pub fn room_is_enough()
     ensures { RoomIsEnough }
-{}
-
-/// The text of a term of a state spells one tree, which is read as the term, where that is within the limits.
-pub fn printed_terms_are_read()
-    ensures { TermsAreReadAgain }
-{}
-
-/// The text of a term of a state that isn't too deep spells one tree, which stands for the term whatever its size.
-pub fn printed_terms_are_said()
-    ensures { TermsAreSaidAgain }
 {}
 
 /// The names of the signature of a script that is read differ, and none is fixed.

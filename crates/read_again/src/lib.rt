@@ -11,7 +11,6 @@ mod used;
 
 pub use again::{AgainErr, read_again};
 pub use laws::{
-    names_that_are_read_differ, printed_scripts_are_read, printed_terms_are_read,
-    printed_terms_are_said, room_is_enough, says_its_clause,
+    names_that_are_read_differ, printed_scripts_are_read, room_is_enough, says_its_clause,
 };
 pub use used::{last_declared_is_used, used_are_declared};

@@ -1,30 +1,29 @@
 //! Carrying a model answer back to the script.
 
-ghost use Rattle.std.specs.Prelude.{◌≡◌, ◌<◌, ◌^◌, length, IfOk, IfErr, IsTrue, ◌↔◌};
-ghost use Rattle.chc_sorts.specs.Signature.{no_datatypes};
-ghost use Rattle.chc_sexpr.specs.Names.{AreNames};
+ghost use Rattle.std.specs.Prelude.{◌≡◌, ◌<◌, ◌^◌, length, Ok, IfOk, IfErr, IsTrue, ◌↔◌};
 ghost use Rattle.chc_state.specs.Definitions.{Defines};
-ghost use Rattle.chc_state.specs.Sorts.{positions};
-ghost use Rattle.chc_state.specs.Steps.{Goes};
+ghost use Rattle.chc_state.specs.Names.{AreNamesOf};
 ghost use Rattle.chc_script.specs.Assertions.{KeepsAssertions};
-ghost use Rattle.ans_model.specs.Models.{IsAnswer};
-ghost use Rattle.chc_jobs.specs.Jobs.{IsScript, Belongs, IsOnlyText};
-ghost use Rattle.chc_jobs.specs.Replaying.{AreWritable};
-ghost use Rattle.chc_jobs.specs.Lifting.{SaysOnly, IsModel, IsOpened, IsCarried, IsFinished, IsModelPrinted, LiftsModel};
+ghost use Rattle.chc_steps.specs.Kinds.{after, StandsFor};
+ghost use Rattle.chc_steps.specs.Runs.{Stand};
+ghost use Rattle.chc_trace.specs.Traces.{IsTraceReading};
+ghost use Rattle.ans_model.specs.Answers.{IsModelReading};
+ghost use Rattle.chc_jobs.specs.Jobs.{ReadsAs, GoesOver, Belongs};
+ghost use Rattle.chc_jobs.specs.Lifting.{IsOpened, IsCarried, IsFinished, IsModelPrinted, LiftsModel};
 ghost use Rattle.chc_jobs.specs.LiftFaults.{IsScriptErr, IsTraceErr, IsAnswerErr, IsStepsErr, IsTraceRefusal, IsOwnTraceErr, IsLiftRefusal};
 
-use super::back::steps_back;
 use super::foreign::Foreign;
-use super::print;
-use super::reading::{read_model, read_script, read_trace};
-use super::replay::{ReplayErr, replay};
+use super::reading::read_model;
+use super::steps::{Replayed, replay, take_back};
 use ans_model::defs_text;
-use chc_script::Script;
+use chc_print::script_text;
+use chc_script::{Script, read_script};
 use chc_sexpr::{TextErr, TextFault};
-use chc_sorts::{List, NoMemory};
+use chc_sorts::NoMemory;
 use chc_source::ByteText;
 use chc_state::{Defs, Names, State, Step};
-use chc_trace::{Trace, digest};
+use chc_steps::{ReplayErr, last_state_is_one};
+use chc_trace::{Trace, digest, read_trace};
 use std::alloc::Global;
 
 /// An answer that was carried back to the script.
@@ -39,13 +38,13 @@ pub struct Lifted {
 /// Why an answer wasn't carried back.
 #[derive(Debug, Drop)]
 pub enum LiftErr {
-    /// The script's bytes are no script.
+    /// The script's bytes are no script: their first fault.
     Script(TextFault),
-    /// The trace's bytes say no trace.
+    /// The trace's bytes say no trace: their first fault.
     Trace(TextFault),
     /// The trace isn't the script's.
     Foreign(Foreign),
-    /// The answer's bytes say no definitions of the predicates that the steps leave.
+    /// The answer's bytes say no definitions of the predicates that the steps leave: their first fault.
     Answer(TextFault),
     /// Memory was refused.
     NoMemory,
@@ -65,7 +64,9 @@ impl From<NoMemory> for LiftErr {
 /// The script of the bytes.
 fn open_script(alloc: Global, script: &[u8]) -> Result<Script, LiftErr>
     requires { length script.now < 2 ^ 32 }
-    ensures ok { IfOk result (IsScript script.now) }
+    ensures ok { IfOk result (ReadsAs script.now) }
+    ensures names { IfOk result (λ X. AreNamesOf X.state X.names) }
+    ensures assertions { IfOk result KeepsAssertions }
     ensures refused { IfErr result (IsScriptErr script.now) }
 {
     match read_script(alloc, script) {
@@ -78,7 +79,7 @@ fn open_script(alloc: Global, script: &[u8]) -> Result<Script, LiftErr>
 /// The trace of the bytes.
 fn open_trace(alloc: Global, trace: &[u8]) -> Result<Trace, LiftErr>
     requires { length trace.now < 2 ^ 32 }
-    ensures ok { IfOk result (SaysOnly trace.now) }
+    ensures ok { IfOk result (λ t. IsTraceReading trace.now (Ok t)) }
     ensures refused { IfErr result (IsTraceErr trace.now) }
 {
     match read_trace(alloc, trace) {
@@ -90,10 +91,9 @@ fn open_trace(alloc: Global, trace: &[u8]) -> Result<Trace, LiftErr>
 
 /// The definitions that the answer says of a state's predicates.
 fn open_answer(alloc: Global, answer: &[u8], state: &State, names: &Names) -> Result<Defs, LiftErr>
-    requires short { length answer.now < 2 ^ 32 }
-    requires named { length names.now ≡ length state.now.preds }
-    requires names { AreNames names.now }
-    ensures ok { IfOk result (IsModel answer.now state.now names.now) }
+    requires { length answer.now < 2 ^ 32 }
+    ensures says { IfOk result (λ d. IsModelReading state.now names.now answer.now (Ok d)) }
+    ensures defines { IfOk result (λ d. Defines d state.now) }
     ensures refused { IfErr result (IsAnswerErr answer.now state.now names.now) }
 {
     match read_model(alloc, answer, state, names) {
@@ -103,34 +103,18 @@ fn open_answer(alloc: Global, answer: &[u8], state: &State, names: &Names) -> Re
     }
 }
 
-/// A state and its text.
-#[derive(Drop)]
-struct Printed {
-    state: State,
-    text: ByteText,
-}
-
-/// The state that the steps lead to, with its text.
-fn reprint(alloc: Global, script: &Script, steps: &[Step]) -> Result<Printed, LiftErr>
-    ensures goes { IfOk result (λ p. Goes script.now.state steps.now p.state) }
-    ensures printed { IfOk result (λ p. IsOnlyText p.state script.now.names p.text) }
+/// The run that the steps are on the script's state, and the state that they lead to.
+fn take_again(alloc: Global, script: &Script, steps: &[Step]) -> Result<Replayed, LiftErr>
+    ensures goes { IfOk result (λ r. GoesOver script.now.state steps.now r.state) }
+    ensures steps { IfOk result (λ r. r.run.steps ≡ steps.now) }
+    ensures stand { IfOk result (λ r. Stand after StandsFor r.run.undos script.now.state steps.now) }
     ensures refused { IfErr result (IsStepsErr script.now.state steps.now) }
 {
     match replay(alloc, &script.state, steps) {
-        Ok(state) => {
-            let text = print(alloc, &state, &script.names)?;
-            Ok(Printed { state, text })
-        }
+        Ok(replayed) => Ok(replayed),
         Err(ReplayErr::NotLegal(k)) => Err(LiftErr::Foreign(Foreign::Step(k))),
         Err(ReplayErr::NoMemory) => Err(LiftErr::NoMemory),
     }
-}
-
-/// The steps of a trace, and the state that they lead to.
-#[derive(Drop)]
-struct Followed {
-    steps: List<Step>,
-    state: State,
 }
 
 /// Whether the digest is the one that is kept.
@@ -147,24 +131,23 @@ fn is_target(text: &ByteText, target: &ByteText) -> bool
     text.bytes() == target.bytes()
 }
 
-/// Replays the trace on the script of these bytes, and gives the state that it leads to.
-fn follow(alloc: Global, bytes: &[u8], script: &Script, trace: Trace) -> Result<Followed, LiftErr>
-    ensures steps { IfOk result (λ f. f.steps ≡ trace.steps) }
-    ensures belongs { IfOk result (λ f. Belongs bytes.now script.now.names script.now.state trace f.state) }
+/// Replays the trace on the script of these bytes: the run that it is, and the state that it leads to.
+fn follow(alloc: Global, bytes: &[u8], script: &Script, trace: Trace) -> Result<Replayed, LiftErr>
+    ensures steps { IfOk result (λ r. r.run.steps ≡ trace.steps) }
+    ensures belongs { IfOk result (λ r. Belongs bytes.now script.now.names script.now.state trace r.state) }
+    ensures stand { IfOk result (λ r. Stand after StandsFor r.run.undos script.now.state trace.steps) }
     ensures refused { IfErr result (IsTraceRefusal bytes.now script.now trace) }
 {
     let found = digest(bytes);
     if !is_kept(&trace.source, &found) {
         return Err(LiftErr::Foreign(Foreign::Source(trace.source, found)));
     }
-    let Printed { state, text } = reprint(alloc, script, trace.steps.as_slice())?;
+    let replayed = take_again(alloc, script, trace.steps.as_slice())?;
+    let text = script_text(alloc, &replayed.state, &script.names)?;
     if !is_target(&text, &trace.target) {
         return Err(LiftErr::Foreign(Foreign::Target(trace.target, text)));
     }
-    Ok(Followed {
-        steps: trace.steps,
-        state,
-    })
+    Ok(replayed)
 }
 
 /// The script's trace, replayed.
@@ -173,48 +156,42 @@ fn open_own_trace(
     bytes: &[u8],
     script: &Script,
     trace: &[u8],
-) -> Result<Followed, LiftErr>
-    requires script { IsScript bytes.now script.now }
+) -> Result<Replayed, LiftErr>
+    requires script { ReadsAs bytes.now script.now }
     requires short { length trace.now < 2 ^ 32 }
-    ensures ok { IfOk result (λ f. IsOpened bytes.now trace.now script.now f.steps f.state) }
+    ensures ok { IfOk result (λ r. IsOpened bytes.now trace.now script.now r.run.steps r.run.undos r.state) }
     ensures refused { IfErr result (IsOwnTraceErr bytes.now trace.now) }
 {
     let read = open_trace(alloc, trace)?;
-    let followed = follow(alloc, bytes, script, read)?;
-    Ok(followed)
+    let replayed = follow(alloc, bytes, script, read)?;
+    Ok(replayed)
 }
 
 /// The definitions of the script's predicates that the answer comes to.
 fn carry(
     alloc: Global,
     script: &Script,
-    followed: &Followed,
+    replayed: &Replayed,
     answer: &[u8],
 ) -> Result<Defs, LiftErr>
     requires short { length answer.now < 2 ^ 32 }
-    requires plain { script.now.state.sig ≡ no_datatypes }
-    requires named { length script.now.names ≡ length script.now.state.preds }
-    requires names { AreNames script.now.names }
-    requires writable { AreWritable (positions script.now.state.preds) }
     requires assertions { KeepsAssertions script.now }
-    requires goes { Goes script.now.state followed.now.steps followed.now.state }
-    ensures ok { IfOk result (IsCarried answer.now script.now followed.now.steps followed.now.state) }
-    ensures refused { IfErr result (IsAnswerErr answer.now followed.now.state script.now.names) }
+    requires goes { GoesOver script.now.state replayed.now.run.steps replayed.now.state }
+    requires stand { Stand after StandsFor replayed.now.run.undos script.now.state replayed.now.run.steps }
+    ensures ok { IfOk result (IsCarried answer.now script.now replayed.now.run.steps replayed.now.state) }
+    ensures refused { IfErr result (IsAnswerErr answer.now replayed.now.state script.now.names) }
 {
-    // A state's clauses are well sorted: the way back rests on it.
-    let _clauses = script.state.clauses();
-    let defs = open_answer(alloc, answer, &followed.state, &script.names)?;
-    let made = steps_back(alloc, script.state.preds(), followed.steps.as_slice(), defs)?;
+    last_state_is_one();
+    let defs = open_answer(alloc, answer, &replayed.state, &script.names)?;
+    let made = take_back(alloc, &replayed.run, defs)?;
     Ok(made)
 }
 
 /// The text of definitions of the script's predicates.
 fn print_model(alloc: Global, script: &Script, defs: &Defs) -> Result<Lifted, NoMemory>
-    requires named { length script.now.names ≡ length script.now.state.preds }
-    requires names { AreNames script.now.names }
     requires defines { Defines defs.now script.now.state }
-    requires answer { IsAnswer defs.now }
-    ensures printed { IfOk result (λ l. IsModelPrinted defs.now script.now l.text) }
+    requires names { AreNamesOf script.now.state script.now.names }
+    ensures printed { IfOk result (λ l. IsModelPrinted script.now defs.now l.text) }
     ensures counted { IfOk result (λ l. l.count ≡ length defs.now.list) }
 {
     let text = defs_text(alloc, defs, &script.state, &script.names)?;
@@ -224,24 +201,22 @@ fn print_model(alloc: Global, script: &Script, defs: &Defs) -> Result<Lifted, No
     })
 }
 
-/// What the answer comes to on the script and the steps of its trace.
+/// What the answer comes to on the script and the run of its trace.
 fn carry_and_print(
     alloc: Global,
     script: &Script,
-    followed: &Followed,
+    replayed: &Replayed,
     answer: &[u8],
 ) -> Result<Lifted, LiftErr>
     requires short { length answer.now < 2 ^ 32 }
-    requires plain { script.now.state.sig ≡ no_datatypes }
-    requires named { length script.now.names ≡ length script.now.state.preds }
-    requires names { AreNames script.now.names }
-    requires writable { AreWritable (positions script.now.state.preds) }
+    requires names { AreNamesOf script.now.state script.now.names }
     requires assertions { KeepsAssertions script.now }
-    requires goes { Goes script.now.state followed.now.steps followed.now.state }
-    ensures ok { IfOk result (λ l. IsFinished answer.now script.now followed.now.steps followed.now.state l.text l.count) }
-    ensures refused { IfErr result (IsAnswerErr answer.now followed.now.state script.now.names) }
+    requires goes { GoesOver script.now.state replayed.now.run.steps replayed.now.state }
+    requires stand { Stand after StandsFor replayed.now.run.undos script.now.state replayed.now.run.steps }
+    ensures ok { IfOk result (λ l. IsFinished answer.now script.now replayed.now.run.steps replayed.now.state l.text l.count) }
+    ensures refused { IfErr result (IsAnswerErr answer.now replayed.now.state script.now.names) }
 {
-    let defs = carry(alloc, script, followed, answer)?;
+    let defs = carry(alloc, script, replayed, answer)?;
     let lifted = print_model(alloc, script, &defs)?;
     Ok(lifted)
 }
@@ -253,10 +228,12 @@ fn carry_and_print(
 ///
 /// In every world in which the answer's definitions make the printed clauses true, the written ones make the
 /// script's clauses true, and its assertions where they have a value everywhere. Any legal steps of the script
-/// whose last state has the target as its text are the script's own, in whatever order they stand.
+/// whose last state has the target as its text are the script's own, in whatever order they stand. The text is read
+/// again as the written definitions where they are within the limits of answers.
 ///
-/// Errors, judged in this order: `Script`, `Trace` and `Answer` where the bytes are none, each with the fault
-/// `NotYet` at place 0, `Foreign` after the trace is read, and `NoMemory`.
+/// Errors, judged in this order: `Script` where the script's bytes are none, `Trace` where the trace's are none, each with the
+/// first fault; `Foreign` where the trace isn't the script's: its digest, then its steps, then its target; `Answer` with the
+/// first fault, where an answer that begins with the symbol `unsat` has the fault `NotYet` there; and `NoMemory`.
 pub fn lift(alloc: Global, script: &[u8], trace: &[u8], answer: &[u8]) -> Result<Lifted, LiftErr>
     requires script { length script.now < 2 ^ 32 }
     requires trace { length trace.now < 2 ^ 32 }
@@ -265,7 +242,7 @@ pub fn lift(alloc: Global, script: &[u8], trace: &[u8], answer: &[u8]) -> Result
     ensures refused { IfErr result (IsLiftRefusal script.now trace.now answer.now) }
 {
     let read = open_script(alloc, script)?;
-    let followed = open_own_trace(alloc, script, &read, trace)?;
-    let lifted = carry_and_print(alloc, &read, &followed, answer)?;
+    let replayed = open_own_trace(alloc, script, &read, trace)?;
+    let lifted = carry_and_print(alloc, &read, &replayed, answer)?;
     Ok(lifted)
 }

@@ -1,70 +1,77 @@
-//! Scripts, traces and answers from bytes, each with the one fault of a text that isn't read.
+//! Answers from bytes.
 
-ghost use Rattle.std.specs.Prelude.{◌≡◌, ◌<◌, ◌^◌, length, IfOk, IfErr};
-ghost use Rattle.chc_sexpr.specs.Names.{AreNames};
-ghost use Rattle.chc_jobs.specs.Jobs.{IsScript, IsRefusal, ReadsNone, not_yet_fault};
-ghost use Rattle.chc_jobs.specs.Lifting.{SaysOnly, IsModel};
-ghost use Rattle.chc_jobs.specs.LiftFaults.{SaysNoTrace, SaysNoModel};
+ghost use Rattle.std.specs.Prelude.{◌≡◌, ◌<◌, ◌^◌, length, Ok, IfOk, IfErr};
+ghost use Rattle.chc_state.specs.Definitions.{Defines};
+ghost use Rattle.ans_model.specs.Answers.{IsModelReading};
+ghost use Rattle.chc_jobs.specs.Answering.{unsat_among, FindsUnsat, IsAnswerRefusal, IsFaultOr, not_yet};
 
 use ans_model::read_defs;
-use chc_script::Script;
-use chc_sexpr::{Fault, TextErr, TextFault};
-use chc_source::ByteText;
+use chc_elab::place_of;
+use chc_sexpr::{Fault, TextErr, TextFault, Tree, is_symbol, read_trees};
+use chc_source::{ByteText, NoMemory};
 use chc_state::{Defs, Names, State};
-use chc_trace::Trace;
-use first_script::read_first;
 use std::alloc::Global;
 
-/// The fault of a text that this version doesn't read.
-fn not_yet(alloc: Global) -> TextErr
-    ensures { result ≡ TextErr.At not_yet_fault }
+/// The place of the first tree, where it is the symbol `unsat`.
+fn unsat_among(trees: &[Tree]) -> Option<u64>
+    ensures { result ≡ unsat_among trees.now }
 {
-    TextErr::At(TextFault {
-        place: 0,
+    match trees {
+        [] => None,
+        [first, ..] => is_symbol(first, b"unsat").then_some(place_of(first)),
+    }
+}
+
+/// The place of the first tree that the bytes spell, where it is the symbol `unsat`.
+fn find_unsat(alloc: Global, answer: &[u8]) -> Result<Option<u64>, NoMemory>
+    requires { length answer.now < 2 ^ 32 }
+    ensures { IfOk result (FindsUnsat answer.now) }
+{
+    match read_trees(alloc, answer) {
+        Ok(trees) => Ok(unsat_among(trees.as_slice())),
+        Err(TextErr::At(_)) => Ok(None),
+        Err(TextErr::NoMemory) => Err(NoMemory),
+    }
+}
+
+/// The fault of a form that this version doesn't read.
+fn not_yet(alloc: Global, place: u64) -> TextFault
+    ensures { result ≡ not_yet place }
+{
+    TextFault {
+        place,
         fault: Fault::NotYet,
         name: ByteText::new(alloc),
-    })
-}
-
-/// The script that the bytes stand for.
-pub(crate) fn read_script(alloc: Global, script: &[u8]) -> Result<Script, TextErr>
-    requires { length script.now < 2 ^ 32 }
-    ensures ok { IfOk result (IsScript script.now) }
-    ensures refused { IfErr result (IsRefusal (ReadsNone script.now)) }
-{
-    match read_first(alloc, script)? {
-        None => Err(not_yet(alloc)),
-        Some(read) => Ok(read),
     }
 }
 
-/// The trace that the bytes say.
-pub(crate) fn read_trace(alloc: Global, trace: &[u8]) -> Result<Trace, TextErr>
-    requires { length trace.now < 2 ^ 32 }
-    ensures ok { IfOk result (SaysOnly trace.now) }
-    ensures refused { IfErr result (IsRefusal (SaysNoTrace trace.now)) }
+/// The fault of an answer that says no definitions, where this is its fault as a model: refutations aren't read yet.
+fn fault_of_answer(alloc: Global, answer: &[u8], fault: TextFault) -> Result<TextFault, NoMemory>
+    requires short { length answer.now < 2 ^ 32 }
+    ensures { IfOk result (IsFaultOr answer.now fault) }
 {
-    match chc_trace::read_trace(alloc, trace)? {
-        None => Err(not_yet(alloc)),
-        Some(read) => Ok(read),
+    match find_unsat(alloc, answer)? {
+        Some(place) => Ok(not_yet(alloc, place)),
+        None => Ok(fault),
     }
 }
 
-/// The definitions that the bytes say of the state's live predicates, which have these names.
+/// The definitions that the bytes say of the state's live predicates, which have these names. Refutations aren't read yet:
+/// an answer that begins with the symbol `unsat` has the fault `NotYet` there.
 pub(crate) fn read_model(
     alloc: Global,
     answer: &[u8],
     state: &State,
     names: &Names,
 ) -> Result<Defs, TextErr>
-    requires short { length answer.now < 2 ^ 32 }
-    requires named { length names.now ≡ length state.now.preds }
-    requires names { AreNames names.now }
-    ensures ok { IfOk result (IsModel answer.now state.now names.now) }
-    ensures refused { IfErr result (IsRefusal (SaysNoModel answer.now state.now names.now)) }
+    requires { length answer.now < 2 ^ 32 }
+    ensures says { IfOk result (λ d. IsModelReading state.now names.now answer.now (Ok d)) }
+    ensures defines { IfOk result (λ d. Defines d state.now) }
+    ensures refused { IfErr result (IsAnswerRefusal answer.now state.now names.now) }
 {
-    match read_defs(alloc, answer, state, names)? {
-        None => Err(not_yet(alloc)),
-        Some(read) => Ok(read),
+    match read_defs(alloc, answer, state, names) {
+        Ok(defs) => Ok(defs),
+        Err(TextErr::At(fault)) => Err(TextErr::At(fault_of_answer(alloc, answer, fault)?)),
+        Err(TextErr::NoMemory) => Err(TextErr::NoMemory),
     }
 }

@@ -1,11 +1,12 @@
 //! The one line that a run prints.
 
-ghost use Rattle.std.specs.Prelude.{decimal};
-ghost use Rattle.chc_jobs.specs.Lines.{line, words_of, counted, outcome_line, fault_line, foreign_line, Puts};
+ghost use Rattle.std.specs.Prelude.{◌≡◌, decimal};
+ghost use Rattle.chc_sexpr.specs.Symbols.{symbol_text};
+ghost use Rattle.chc_jobs.specs.Lines.{line, words_of, counted, outcome_line, is_about_name, reason, fault_line, foreign_line, Puts};
 
 use super::status::{Outcome, Status};
 use crate::lift::Foreign;
-use chc_sexpr::TextFault;
+use chc_sexpr::{Fault, TextFault, is_bare};
 use chc_source::{Failed, Sink};
 use itoa::Buffer;
 
@@ -72,13 +73,58 @@ fn put_foreign<K: Sink>(say: &mut K, foreign: &Foreign) -> Result<(), Failed>
     }
 }
 
+/// Puts a name as a symbol.
+fn put_symbol<K: Sink>(say: &mut K, name: &[u8]) -> Result<(), Failed>
+    ensures { Puts (symbol_text name.now) (K.output say.old) result (K.output say.new) }
+{
+    if is_bare(name) {
+        return put_all(say, name);
+    }
+    put_all(say, b"|")?;
+    put_all(say, name)?;
+    put_all(say, b"|")
+}
+
+/// Whether a fault is about a name.
+fn is_about_name(fault: &Fault) -> bool
+    ensures { result ≡ is_about_name fault.now }
+{
+    matches!(
+        fault,
+        Fault::UnknownName
+            | Fault::UnknownSort
+            | Fault::NameTaken
+            | Fault::NotSupported
+            | Fault::OtherLogic
+            | Fault::UnknownCommand
+            | Fault::NotPredicate
+            | Fault::NotWellFounded
+            | Fault::TooMany
+            | Fault::Twice
+            | Fault::WrongParams
+            | Fault::Missing
+    )
+}
+
+/// Puts what is wrong, with the name that it is about where there is one.
+fn put_reason<K: Sink>(say: &mut K, fault: &TextFault) -> Result<(), Failed>
+    ensures { Puts (reason fault.now) (K.output say.old) result (K.output say.new) }
+{
+    if !is_about_name(&fault.fault) {
+        return put_all(say, fault.fault.name());
+    }
+    put_all(say, fault.fault.name())?;
+    put_all(say, b" ")?;
+    put_symbol(say, fault.name.bytes())
+}
+
 /// Puts a fault with its place.
 fn put_fault<K: Sink>(say: &mut K, text: &[u8], fault: &TextFault) -> Result<(), Failed>
     ensures { Puts (fault_line text.now fault.now) (K.output say.old) result (K.output say.new) }
 {
     put_counted(say, text, fault.place)?;
     put_all(say, b": ")?;
-    put_all(say, fault.fault.name())
+    put_reason(say, fault)
 }
 
 /// Puts what the line of a status says.

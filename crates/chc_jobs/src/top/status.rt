@@ -22,13 +22,13 @@ pub enum Status {
     Done(Outcome),
     /// The words are no form of either command.
     Usage,
-    /// The script's bytes are no script.
+    /// The script's bytes are no script: their first fault.
     ScriptRefused(TextFault),
-    /// The trace's bytes say no trace.
+    /// The trace's bytes say no trace: their first fault.
     TraceRefused(TextFault),
     /// The trace isn't the script's.
     Foreign(Foreign),
-    /// The answer's bytes say no answer for the printed script.
+    /// The answer's bytes say no answer for the printed script: their first fault.
     AnswerRefused(TextFault),
     /// The file of the input word of that number couldn't be read; the command's word has the number 0.
     ReadFault(u32),

@@ -1,7 +1,8 @@
-use Rattle.std.proofs.Common.{sym}
-use Rattle.ans_model.proofs.Room.{room_parts}
+use Rattle.std.proofs.Common.{arith}
+use Rattle.chc_elab.proofs.TreeCounts.{count_length}
 use Rattle.ans_model.proofs.definition.read_definition.Goals as goal
 
-pub read_parts-requires : goal.read_parts-requires
-read_parts-requires c =
-    room_parts c.args.tree.now c.in-Some.trees.now c.params-item.result c.body-item.result c.requires (sym c.in-Some.ensures) c.in-len5.len_at_least c.params-item.is c.body-item.is
+pub elab_sorted-requires-clause-room : goal.elab_sorted-requires-clause-room
+elab_sorted-requires-clause-room c =
+    let few = count_length c.args.form.now.params.now in
+    omega (arith, few, c.in_ok-names.ensures.count, c.requires.room)

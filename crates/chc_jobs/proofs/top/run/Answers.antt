@@ -8,4 +8,4 @@ returns-clause-complete g c script out trace form =
 
 pub returns-clause-lift_complete : goal.returns-clause-lift_complete
 returns-clause-lift_complete g c script trace answer out form =
-    lift_completes script trace answer out _ _ _ (c.answer-status.ensures.lift script trace answer out form)
+    lift_completes c.liftable_is_lifted.ensures script trace answer out _ _ _ (c.answer-status.ensures.lift script trace answer out form)

@@ -3,7 +3,7 @@ use Rattle.std.specs.List.{All}
 use Rattle.std.proofs.lemmas.List.Elements.{All-more}
 use Rattle.std.proofs.lemmas.Grind.{common_steps}
 use Rattle.std.proofs.lemmas.List.{take_all}
-use Rattle.chc_trace.specs.Traces.{HasSmallNumbers}
+use Rattle.chc_trace.specs.Kinds.{HasSmallNumbers}
 use Rattle.chc_trace.proofs.text.write_steps.Goals as goal
 
 pub loop-step-preserved : goal.loop-step-preserved

@@ -1,5 +1,5 @@
 use Rattle.std.proofs.Common.{◌≡◌, drop}
-use Rattle.chc_state.specs.Steps.{is_ascending}
+use Rattle.chc_state.specs.PredSets.{is_ascending}
 use Rattle.pass_slice.proofs.Ascending.{rises}
 use Rattle.pass_slice.proofs.choice.are_ascending.Given as goal
 

@@ -1,5 +1,5 @@
 use Rattle.std.proofs.Common.{◌≡◌, ◌++◌, take, drop}
-use Rattle.chc_state.specs.Steps.{retired}
+use Rattle.chc_state.specs.PredSets.{retired}
 use Rattle.pass_slice.specs.Tables.{marked}
 use Rattle.pass_slice.proofs.sets.retire.Given as goal
 

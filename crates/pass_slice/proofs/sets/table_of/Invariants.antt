@@ -1,5 +1,5 @@
 use Rattle.std.proofs.Common.{◌≡◌, ℕ, length, take}
-use Rattle.chc_state.specs.Steps.{set_of}
+use Rattle.chc_state.specs.PredSets.{set_of}
 use Rattle.pass_slice.specs.Tables.{marked}
 use Rattle.pass_slice.proofs.sets.table_of.Given as goal
 

@@ -1,4 +1,4 @@
-use Rattle.chc_state.specs.Steps.{is_unneeded}
+use Rattle.pass_slice.specs.Slices.{is_unneeded}
 use Rattle.pass_slice.specs.Tables.{Bounds}
 use Rattle.pass_slice.proofs.unneeded.look_at_all.Given as goal
 

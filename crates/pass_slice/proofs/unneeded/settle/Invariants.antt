@@ -1,5 +1,5 @@
 use Rattle.std.proofs.Common.{count_by}
-use Rattle.chc_state.specs.Steps.{is_unneeded}
+use Rattle.pass_slice.specs.Slices.{is_unneeded}
 use Rattle.pass_slice.specs.Tables.{Bounds}
 use Rattle.pass_slice.proofs.unneeded.settle.Given as goal
 

@@ -2,7 +2,7 @@ use Rattle.std.proofs.Common.{not, List, ap, ◌∙◌, rules}
 use Rattle.std.specs.List.{filter}
 use Rattle.std.proofs.lemmas.Fn.{filter_same}
 use Rattle.chc_state.specs.declared.clause.Clause.{Clause}
-use Rattle.chc_state.specs.Steps.{head_meets}
+use Rattle.pass_slice.specs.Slices.{head_meets}
 use Rattle.pass_slice.specs.Tables.{marked}
 use Rattle.pass_slice.proofs.unneeded.without_concluders.Goals as goal
 

@@ -1,6 +1,6 @@
 use Rattle.std.proofs.Common.{not, ◌||◌, List, length, ap, arith}
 use Rattle.chc_state.specs.declared.clause.Clause.{Clause}
-use Rattle.chc_state.specs.Steps.{body_meets, head_meets}
+use Rattle.pass_slice.specs.Slices.{body_meets, head_meets}
 use Rattle.chc_state.proofs.Members.{all_from_places}
 use Rattle.pass_slice.specs.Tables.{marked}
 use Rattle.pass_slice.proofs.unreached.breaker.Goals as goal

@@ -1,5 +1,5 @@
 use Rattle.std.proofs.Common.{ℕ, ◌<◌, not, ◌||◌}
-use Rattle.chc_state.specs.Steps.{body_meets, head_meets}
+use Rattle.pass_slice.specs.Slices.{body_meets, head_meets}
 use Rattle.pass_slice.specs.Tables.{marked, AtPlace}
 use Rattle.pass_slice.proofs.unreached.breaker.Given as goal
 

@@ -1,5 +1,5 @@
 use Rattle.std.proofs.Common.{List, Bool, sym, subst}
-use Rattle.chc_state.specs.Steps.{is_unreached}
+use Rattle.pass_slice.specs.Slices.{is_unreached}
 use Rattle.pass_slice.specs.Tables.{Bounds}
 use Rattle.pass_slice.proofs.Bounding.{Bounds-live}
 use Rattle.pass_slice.proofs.unreached.find.Goals as goal

@@ -1,4 +1,4 @@
-use Rattle.chc_state.specs.Steps.{is_unreached}
+use Rattle.pass_slice.specs.Slices.{is_unreached}
 use Rattle.pass_slice.specs.Tables.{Bounds}
 use Rattle.pass_slice.proofs.unreached.spread.Given as goal
 

@@ -18,4 +18,4 @@ returns-in-Err-At-clause-again c = λ named readable.
     let clauses = c.clauses-clauses.ensures in
     let reading : IsScriptReading c.bytes.result.now (Err (text_err.At c.in-Err-At.fault)) = rw c.in-Err-At.field-0-is at c.in-Err-At.ensures.reading in
     never_refused c.args.script.now c.in_ok-text.text (record { made = made; formed = clauses.formed; live = clauses.live; within = clauses.within }) c.in_ok-text.ensures.text named readable
-    c.bytes.result.now c.bytes.ensures c.in-Err-At.fault reading.0
+    c.bytes.result.now c.bytes.ensures reading.0

@@ -1,7 +1,0 @@
-use Rattle.std.proofs.Common.{rules, ◌∙◌}
-use Rattle.std.specs.Str.{bytes_eq}
-use Rattle.ans_model.proofs.Tables.{list_any-map}
-use Rattle.ans_model.proofs.names.NameTable.has.Goals as goal
-
-pub returns : goal.returns
-returns c = c.contains.ensures ∙ list_any-map (λ name. name.items) (bytes_eq c.args.name.now) c.self.inside.names.keys ∙ search rules

@@ -1,6 +1,0 @@
-use Rattle.std.proofs.Common.{arith}
-use Rattle.ans_model.proofs.SortTests.{other_lengths}
-use Rattle.ans_model.proofs.sorts.same_sorts.Goals as goal
-
-pub returns-then-left-right : goal.returns-then-left-right
-returns-then-left-right c = other_lengths c.args.left.now c.args.right.now (λ e. omega arith)

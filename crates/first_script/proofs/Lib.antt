@@ -1,9 +1,0 @@
-pub mod Ints
-pub mod Kept
-pub mod Made
-pub mod MadeLaws
-pub mod NameLaws
-pub mod Numbers
-pub mod Readings
-pub mod Tables
-pub mod TermLaws

@@ -1,5 +1,0 @@
-pub mod Clauses
-pub mod Names
-pub mod FirstScripts
-pub mod Terms
-pub mod Made
