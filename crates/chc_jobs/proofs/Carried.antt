@@ -1,5 +1,5 @@
 -- What the way back over a run makes of an answer.
-use Rattle.std.proofs.Common.{◌≡◌, ℕ, List, sym, subst}
+use Rattle.std.proofs.Common.{ℕ, List, sym, subst}
 use Rattle.std.specs.Prelude.{Ok}
 use Rattle.chc_state.specs.States.{StateView}
 use Rattle.chc_state.specs.Back.{LeadsBack}

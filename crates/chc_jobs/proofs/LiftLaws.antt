@@ -1,5 +1,5 @@
 -- What the parts of a lift come to together.
-use Rattle.std.proofs.Common.{◌≡◌, ◌≢◌, ℕ, List, refl, sym, ◌∙◌, subst}
+use Rattle.std.proofs.Common.{◌≡◌, ◌≢◌, ℕ, List, sym, ◌∙◌, subst}
 use Rattle.std.specs.Prelude.{Ok}
 use Rattle.chc_sexpr.specs.declared.fault.TextFault.{TextFault}
 use Rattle.chc_state.specs.States.{StateView}

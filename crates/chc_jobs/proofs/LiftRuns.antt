@@ -1,15 +1,15 @@
 -- What the parts of `lift` come to on its files.
-use Rattle.std.proofs.Common.{◌≡◌, ◌≢◌, ℕ, ◌<◌, ◌≤◌, List, [], ◌∷◌, length, refl, sym, ◌∙◌, ap, subst, inl, inr, arith}
+use Rattle.std.proofs.Common.{◌≡◌, ℕ, ◌<◌, ◌≤◌, List, [], ◌∷◌, length, refl, sym, ◌∙◌, ap, subst, inl, inr, arith}
 use Rattle.std.specs.Prelude.{Some}
 use Rattle.chc_source.specs.Outside.{Outside, bytes_at, OnlyReads, OnlyWrites, IsCutShort}
 use Rattle.chc_state.specs.Meaning.{In}
 use Rattle.chc_jobs.specs.Lifting.{LiftsModel}
-use Rattle.chc_jobs.specs.Runs.{FileWord, word_at, Given, Job, most_bytes, Touches, Told, AreShort, HoldTexts, lift_files, lift_job, LiftMakes, LiftRefuses, LiftComes, LiftableIsLifted, LiftCompletes}
-use Rattle.chc_jobs.specs.Refusals.{WordReadRefusal, WordWriteRefusal, ReadRefusal, BytesRefusal, InputRefusal, OutputRefusal, OnlyReadsAll, AreRead}
+use Rattle.chc_jobs.specs.Runs.{FileWord, word_at, Job, most_bytes, Touches, Told, AreShort, lift_files, lift_job, LiftMakes, LiftRefuses, LiftComes, LiftableIsLifted, LiftCompletes}
+use Rattle.chc_jobs.specs.Refusals.{WordReadRefusal, WordWriteRefusal, ReadRefusal, BytesRefusal, InputRefusal, OnlyReadsAll, AreRead}
 use Rattle.chc_jobs.specs.declared.top.status.Outcome.TheVariants as outcome
 use Rattle.chc_jobs.specs.declared.top.status.Status.{Status}
 use Rattle.chc_jobs.specs.declared.top.status.Status.TheVariants as status
-use Rattle.chc_jobs.proofs.RunLaws.{reads-one, reads-none, reads-then, bytes-same, bytes-later, read_refused, input_unread, input_refused, ended_early, output_refused, all_done, first_refused, read_short, Touches-reads, Touches-writes, Touches-then, is_complete}
+use Rattle.chc_jobs.proofs.RunLaws.{reads-one, reads-none, reads-then, bytes-later, read_refused, input_unread, input_refused, ended_early, output_refused, all_done, first_refused, read_short, Touches-reads, Touches-writes, Touches-then, is_complete}
 
 short_as : (a : Outside) (name : List ℕ) (u : FileWord) (text : List ℕ) → u.name ≡ name → text ≡ bytes_at a name → length text ≤ most_bytes → length (bytes_at a u.name) ≤ most_bytes
 short_as a name u text e read few =

@@ -6,8 +6,8 @@ use Rattle.chc_state.specs.Meaning.{In}
 use Rattle.chc_script.specs.Scripts.{ScriptView}
 use Rattle.chc_script.specs.WholeScripts.{Says}
 use Rattle.chc_jobs.specs.Jobs.{Normalises}
-use Rattle.chc_jobs.specs.Runs.{FileWord, word_at, Given, most_bytes, Touches, Told, AreShort, HoldTexts, NoFaults, IsDoneOrFree, normalise_files, normalise_job, NormaliseMakes, NormaliseRefuses, NormaliseComes, NormaliseCompletes}
-use Rattle.chc_jobs.specs.Refusals.{WordReadRefusal, WordWriteRefusal, ReadRefusal, BytesRefusal, InputRefusal, OutputRefusal, OnlyReadsAll}
+use Rattle.chc_jobs.specs.Runs.{FileWord, word_at, most_bytes, Touches, Told, AreShort, HoldTexts, normalise_files, normalise_job, NormaliseMakes, NormaliseRefuses, NormaliseComes, NormaliseCompletes}
+use Rattle.chc_jobs.specs.Refusals.{WordReadRefusal, WordWriteRefusal, BytesRefusal, InputRefusal, OutputRefusal, OnlyReadsAll}
 use Rattle.chc_jobs.specs.declared.top.status.Outcome.TheVariants as outcome
 use Rattle.chc_jobs.specs.declared.top.status.Status.{Status}
 use Rattle.chc_jobs.specs.declared.top.status.Status.TheVariants as status

@@ -1,9 +1,9 @@
 -- What the parts of a run come to together.
 use Rattle.std.proofs.Common.{◌≡◌, ◌≢◌, ℕ, ◌<◌, ◌≤◌, List, [], ◌∷◌, length, map, refl, sym, ◌∙◌, ap, subst, inl, inr, arith}
-use Rattle.std.specs.Prelude.{◌⊎◌, Option, Some, unwrap_or}
+use Rattle.std.specs.Prelude.{Option, Some, unwrap_or}
 use Rattle.chc_source.specs.Outside.{Outside, bytes_at, Rose, Grows, OnlyReads, OnlyWrites, IsCutShort}
 use Rattle.chc_state.specs.Meaning.{In}
-use Rattle.chc_jobs.specs.Runs.{FileWord, Given, Job, most_bytes, IsApart, Touches, SameFiles, Told, ReadFails, WriteFails, AreShort, IsTooLong, AreAsBefore, HoldTexts, StopsAt, Stopped, Written, Comes, NoFaults, IsDoneOrFree}
+use Rattle.chc_jobs.specs.Runs.{FileWord, Given, Job, most_bytes, Touches, SameFiles, Told, AreShort, AreAsBefore, HoldTexts, StopsAt, Comes, NoFaults, IsDoneOrFree}
 use Rattle.chc_jobs.specs.Refusals.{WordReadRefusal, WordWriteRefusal, OnlyReadsAll, ReadRefusal, BytesRefusal, InputRefusal, OutputRefusal, AreRead}
 use Rattle.chc_jobs.specs.declared.top.status.Outcome.{Outcome}
 use Rattle.chc_jobs.specs.declared.top.status.Status.{Status}

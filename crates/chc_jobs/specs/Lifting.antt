@@ -4,7 +4,7 @@ use Rattle.chc_values.specs.declared.world.WorldEntry.{WorldEntry}
 use Rattle.chc_values.specs.Worlds.{IsWorld}
 use Rattle.chc_terms.specs.declared.term.Term.{Term}
 use Rattle.chc_state.specs.States.{StateView}
-use Rattle.chc_state.specs.Definitions.{Defines, Holds, Decided, AssertTrue}
+use Rattle.chc_state.specs.Definitions.{Holds, Decided, AssertTrue}
 use Rattle.chc_state.specs.Back.{LeadsBack}
 use Rattle.chc_state.specs.declared.defs.Defs.{Defs}
 use Rattle.chc_state.specs.declared.step.Step.{Step}

@@ -1,20 +1,17 @@
 -- Steps by kind: what an undo stands for, and states in which no kind has a choice.
 use Rattle.std.proofs.Common.{◌≡◌, ℕ, true, false, List, sym, ◌∙◌}
-use Rattle.std.specs.Prelude.{IsTrue}
-use Rattle.std.specs.List.{list_all}
 use Rattle.chc_values.specs.declared.world.WorldEntry.{WorldEntry}
 use Rattle.chc_state.specs.declared.refutation.RefStep.{RefStep}
 use Rattle.chc_state.specs.declared.step.Step.{Step}
 use Rattle.chc_state.specs.declared.step.Step.TheVariants as step
 use Rattle.chc_state.specs.States.{StateView}
-use Rattle.chc_state.specs.Passes.{is_constant, IsFound, Applies}
+use Rattle.chc_state.specs.Passes.{Applies}
 use Rattle.pass_slice.specs.declared.sliced.Sliced.{Sliced}
 use Rattle.pass_slice.specs.Slices.{Slice, sliced}
 use Rattle.pass_slice.specs.Undos as slice
 use Rattle.pass_slice.specs.Voids.{VoidStands, without_clause}
-use Rattle.chc_steps.specs.declared.any.AnyUndo.{AnyUndo}
 use Rattle.chc_steps.specs.declared.any.AnyUndo.TheVariants as undo
-use Rattle.chc_steps.specs.Kinds.{IsLegal, after, terms_of, reduces, adds, StandsFor, kind_of, kinds_before, IsTurned, IsOwnChoice, AllDone, all_kinds, IsFirstStep}
+use Rattle.chc_steps.specs.Kinds.{after, reduces, adds, StandsFor, IsTurned, AllDone, all_kinds, IsFirstStep}
 
 -- a state in which no kind has a choice has no first step
 pub none_first : (s : StateView) → AllDone s all_kinds → (x : Step) → IsFirstStep s x → ⊥

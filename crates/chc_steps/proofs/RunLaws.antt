@@ -1,6 +1,6 @@
 -- Runs of steps of any kind: one more step at the end, and the way back over one step more at the beginning.
 use Rattle.std.proofs.Common.{◌≡◌, ℕ, zero, suc, ◌<◌, List, [], ◌∷◌, ◌++◌, length, take, drop, get_or, drop-cons, refl, sym, ◌∙◌, ap, subst, arith, ◌+◌}
-use Rattle.std.specs.Prelude.{Option, Some, None, slice_get, Result, Ok, Err}
+use Rattle.std.specs.Prelude.{Some, None, slice_get, Result, Ok, Err}
 use Rattle.std.proofs.lemmas.List.{take_more}
 use Rattle.std.proofs.lemmas.Option.{slice_get_read}
 use Rattle.chc_values.specs.declared.world.WorldEntry.{WorldEntry}

@@ -1,4 +1,4 @@
-use Rattle.std.proofs.Common.{rules, ◌≡◌, List, subst, sym, ◌∙◌, IsTrue}
+use Rattle.std.proofs.Common.{◌≡◌, List, subst, sym, ◌∙◌, IsTrue}
 use Rattle.chc_sorts.specs.Signature.{Signature}
 use Rattle.chc_state.specs.declared.clause.Clause.{Clause}
 use Rattle.chc_state.specs.declared.clause.PredDecl.{PredDecl}
