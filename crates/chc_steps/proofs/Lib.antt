@@ -1,3 +1,4 @@
 pub mod KindLaws
+pub mod QueryAlone
 pub mod Ranking
 pub mod RunLaws

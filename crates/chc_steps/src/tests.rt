@@ -1,8 +1,14 @@
 //! Runs from small states: what is taken first, taking steps again in another order, and the way back.
 
-use crate::{ReplayErr, Run, first, normal, replay};
+ghost use Rattle.std.specs.Prelude.{◌≡◌, [], ◌∷◌, None, not, IfOk, IsTrue};
+ghost use Rattle.std.specs.List.{list_all};
+ghost use Rattle.chc_state.specs.declared.clause.Clause.{Clause as HornClause};
+
+use crate::{ReplayErr, Run, RunBackErr, back_defs, back_steps, first, normal, replay};
 use chc_sorts::{List, NoMemory, Sig};
-use chc_state::{Atom, Clause, PredDecl, State, Step, positions_fit};
+use chc_state::{Atom, Clause, Def, Defs, PredDecl, RefStep, State, Step, Steps, positions_fit};
+use chc_terms::Term;
+use chc_values::World;
 use std::alloc::Global;
 use std::test::Fail;
 
@@ -185,5 +191,141 @@ fn the_first_illegal_step_is_named(rt: HostRuntime) -> Result<(), Fail> {
     assert_eq!(rt; replayed(alloc, MIXED, b"v0 na")?, Some(Err(0)));
     assert_eq!(rt; replayed(alloc, MIXED, b"nb v1 v1 na")?, Some(Err(2)));
     assert_eq!(rt; replayed(alloc, MIXED, b"rcd rc")?, Some(Err(1)));
+    Ok(())
+}
+
+/// Nothing new follows by clause 0, nothing concludes b, and no query needs c, so the query alone is left.
+const DOWN_TO_QUERY: &[u8] = b"aa cb c -";
+
+/// Whether none of the predicates is live.
+fn none_is_live(preds: &List<PredDecl>) -> bool
+    ensures { result ≡ list_all (λ p. not p.live) preds.now }
+{
+    preds.as_slice().iter().all(|p| !p.live)
+}
+
+/// No definitions, of four predicates.
+fn no_defs(alloc: Global) -> Result<Defs, NoMemory>
+    ensures list { IfOk result (λ d. d.list ≡ []) }
+    ensures of { IfOk result (λ d. d.of ≡ None ∷ None ∷ None ∷ None ∷ []) }
+{
+    let mut of = List::new(alloc);
+    of.push(None)?;
+    of.push(None)?;
+    of.push(None)?;
+    of.push(None)?;
+    let list = List::new(alloc);
+    Ok(Defs { list, of })
+}
+
+/// The definitions before the run that `normal` takes from the state, where it removes all of four predicates.
+fn defs_before(alloc: Global, s: State) -> Result<Option<Defs>, NoMemory> {
+    let (z, run) = normal(alloc, s)?;
+    if z.preds().len() == 4 && none_is_live(z.preds()) {
+        let none = no_defs(alloc)?;
+        return Ok(Some(back_defs(alloc, &run, none)?));
+    }
+    Ok(None)
+}
+
+/// The letter of a definition: `t` or `f` where it is that truth value, `?` where it is another term.
+fn letter_of(def: &Def) -> u8 {
+    match &def.body {
+        Term::Lit(true) => b't',
+        Term::Lit(false) => b'f',
+        _ => b'?',
+    }
+}
+
+/// The letter of the predicate's definition, or `-` where it has none.
+fn letter_at(d: &Defs, p: usize) -> u8 {
+    match d.of.get(p) {
+        Some(Some(k)) => match d.list.get(*k as usize) {
+            Some(def) => letter_of(def),
+            None => b'?',
+        },
+        _ => b'-',
+    }
+}
+
+/// Whether those are the letters of the first predicates' definitions.
+fn are_letters(d: &Defs, letters: &[u8]) -> bool {
+    letters
+        .iter()
+        .enumerate()
+        .all(|(p, letter)| letter_at(d, p) == *letter)
+}
+
+/// Whether the definitions before the run from the state of the text have those letters.
+fn come_back_as(alloc: Global, text: &[u8], letters: &[u8]) -> Result<bool, NoMemory> {
+    match small(alloc, text)? {
+        Some(s) => match defs_before(alloc, s)? {
+            Some(d) => Ok(are_letters(&d, letters)),
+            None => Ok(false),
+        },
+        None => Ok(false),
+    }
+}
+
+#[test]
+fn definitions_come_back_over_all_kinds(rt: HostRuntime) -> Result<(), Fail> {
+    assert!(rt; come_back_as(rt.alloc(), DOWN_TO_QUERY, b"fftf")?);
+    Ok(())
+}
+
+/// Whether the clauses are one query without variables, conjuncts and body atoms.
+fn ask_nothing(clauses: &[Clause]) -> bool
+    ensures { IsTrue result → (c : HornClause) × (clauses.now ≡ c ∷ []) × (c.head ≡ None) × (c.vars ≡ []) × (c.conj ≡ []) × (c.body ≡ []) }
+{
+    match clauses {
+        [c] => { c.head.is_none() && c.vars.len() == 0 && c.conj.len() == 0 && c.body.len() == 0 }
+        _ => false,
+    }
+}
+
+/// The step on clause 0, without values and premises.
+fn one_step(alloc: Global) -> Result<Steps, NoMemory>
+    ensures { IfOk result (λ r. r ≡ record { clause = 0; values = []; premises = [] } ∷ []) }
+{
+    let mut steps = List::new(alloc);
+    steps.push(RefStep {
+        clause: 0,
+        values: List::new(alloc),
+        premises: List::new(alloc),
+    })?;
+    Ok(steps)
+}
+
+/// The steps before the run that `normal` takes from the state, where a query that asks for nothing is left.
+fn steps_before(alloc: Global, s: State) -> Result<Option<Steps>, RunBackErr> {
+    let Ok((z, run)) = normal(alloc, s) else {
+        return Err(RunBackErr::NoMemory);
+    };
+    let Ok(one) = one_step(alloc) else {
+        return Err(RunBackErr::NoMemory);
+    };
+    if ask_nothing(z.clauses().as_slice()) {
+        let world = World::new(alloc);
+        return Ok(Some(back_steps(alloc, &run, one, &world)?));
+    }
+    Ok(None)
+}
+
+/// How many steps come back over the run from the state of the text, and the clause of the first.
+fn first_before(alloc: Global, text: &[u8]) -> Result<Option<(usize, u32)>, NoMemory> {
+    match small(alloc, text)? {
+        Some(s) => match steps_before(alloc, s) {
+            Ok(Some(steps)) => Ok(steps.get(0).map(|step| (steps.len(), step.clause))),
+            Err(RunBackErr::NoMemory) => Err(NoMemory),
+            _ => Ok(None),
+        },
+        None => Ok(None),
+    }
+}
+
+#[test]
+fn refutations_come_back_over_all_kinds(rt: HostRuntime) -> Result<(), Fail> {
+    assert_eq!(rt; first_before(rt.alloc(), DOWN_TO_QUERY)?, Some((1, 3)));
+    assert_eq!(rt; first_before(rt.alloc(), MIXED)?, None);
     Ok(())
 }
